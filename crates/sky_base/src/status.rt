@@ -1,0 +1,57 @@
+ghost use Rattle.std.specs.Prelude.{◌≡◌};
+ghost use Rattle.sky_base.specs.Status.{number_of, place_of};
+
+/// How a run ends. The program exits with the status's number.
+#[derive(Clone, Copy, Debug, PartialEq, Eq)]
+pub enum Status {
+    /// 0: the session's end was read and answered.
+    Done,
+    /// 1: the words of the command line aren't a command. Nothing is written.
+    Words,
+    /// 2: the source's bytes leave the grammar of a recorded session.
+    Malformed {
+        /// Where: the first byte of the frame, or 0 for the magic.
+        at: u64,
+    },
+    /// 3: the source ended before the session's end.
+    Early,
+    /// 4: a read failed.
+    SourceFault,
+    /// 5: a write failed.
+    SinkFault,
+    /// 8: there was no memory to begin with.
+    Memory,
+    /// 10: 2^32 frames were read, and none of them ended the session.
+    Long,
+    /// 11: the text of the settings is refused. Nothing is written.
+    Settings,
+}
+
+impl Status {
+    /// The number that stands for it, 0 to 11.
+    pub fn number(self) -> u32
+        ensures { result ≡ number_of self }
+    {
+        match self {
+            Status::Done => 0,
+            Status::Words => 1,
+            Status::Malformed { at: _ } => 2,
+            Status::Early => 3,
+            Status::SourceFault => 4,
+            Status::SinkFault => 5,
+            Status::Memory => 8,
+            Status::Long => 10,
+            Status::Settings => 11,
+        }
+    }
+
+    /// The place in the source's bytes that it names, or 0 where it names none.
+    pub fn place(self) -> u64
+        ensures { result ≡ place_of self }
+    {
+        match self {
+            Status::Malformed { at } => at,
+            _ => 0,
+        }
+    }
+}
