@@ -1,0 +1,15 @@
+-- What a device tells of its bytes: `None` where it tells nothing.
+use Rattle.std.specs.Prelude.{◌≡◌, ℕ, List, ◌++◌, Option, IfSome}
+use Rattle.std.specs.Option.{option_map}
+
+-- a fact of what is told, which asks nothing where nothing is
+abbrev pub WhereTold : Option (List ℕ) → (List ℕ → Type 0) → Type 0
+WhereTold told P = IfSome told P
+
+-- A source had these bytes at its front, and now has what followed them.
+abbrev pub Had : Option (List ℕ) → Option (List ℕ) → List ℕ → Type 0
+Had before now bytes = before ≡ option_map (λ rest. bytes ++ rest) now
+
+-- A sink was given these bytes, after all that it had been given before.
+abbrev pub Given : Option (List ℕ) → Option (List ℕ) → List ℕ → Type 0
+Given before now bytes = now ≡ option_map (λ written. written ++ bytes) before

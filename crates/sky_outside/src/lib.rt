@@ -1,0 +1,14 @@
+//! What the proxy needs of the world outside it, as traits: where bytes come from and go to, the
+//! journal's disk, the cloud, the clock, the threads and the doors through which clients come.
+//!
+//! Each device but the clock counts its own faults, and an answer that blames a device comes only
+//! where the count rose in that call. A device may tell what it holds; a contract then speaks of it.
+#![tactic(auto)]
+
+mod server;
+mod site;
+mod stream;
+
+pub use server::{Clock, Doors, Spawner};
+pub use site::{Cloud, Disk, GetFault, Held, PutFault, Site, Storage};
+pub use stream::{Failed, Sink, Source};
