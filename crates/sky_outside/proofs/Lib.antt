@@ -1,2 +1,3 @@
 pub mod CountLaws
+mod Parts
 pub mod ToldLaws

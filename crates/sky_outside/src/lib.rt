@@ -8,7 +8,9 @@
 mod server;
 mod site;
 mod stream;
+mod whole;
 
 pub use server::{Clock, Doors, Spawner};
 pub use site::{Cloud, Disk, GetFault, Held, PutFault, Site, Storage};
 pub use stream::{Failed, Sink, Source};
+pub use whole::{FillFault, fill, write_all};
