@@ -1,8 +1,9 @@
 -- How what is told of several calls composes. Crates above cite these.
-use Rattle.std.proofs.Common.{◌≡◌, List, ℕ, [], ◌++◌, Option, Some, None, refl, sym, ap, ◌∙◌, append_assoc}
+use Rattle.std.proofs.Common.{◌≡◌, ◌+◌, ◌<◌, List, ℕ, [], ◌++◌, length, take, arith, subst, Option, Some, None, refl, sym, ap, ◌∙◌, append_assoc}
 use Rattle.std.specs.Option.{option_map}
-use Rattle.std.proofs.lemmas.List.{append-nil}
-use Rattle.sky_outside.specs.Told.{Had, Given}
+use Rattle.std.proofs.lemmas.List.{append-nil, length-append, take-append-le}
+use Rattle.std.proofs.Math.Seq.{take-append-add, take-append_seam}
+use Rattle.sky_outside.specs.Told.{Had, Given, GivenPart}
 
 -- a source of which nothing was taken
 pub Had-none : (told : Option (List ℕ)) → Had told told []
@@ -30,3 +31,18 @@ Given-then (Some bytes) b c x y first second =
 pub Had-told : (a b : Option (List ℕ)) (x bytes : List ℕ) → Had a b x → a ≡ Some bytes → (rest : List ℕ) × (b ≡ Some rest) × (bytes ≡ x ++ rest)
 Had-told a None x bytes had told = absurd cc
 Had-told a (Some rest) x bytes had told = let e : Some bytes ≡ Some (x ++ rest) = sym told ∙ had in (rest, refl, cc)
+
+-- a front of a piece is a front of a longer one
+pub GivenPart-first : (a b : Option (List ℕ)) (x y : List ℕ) → GivenPart a b x → GivenPart a b (x ++ y)
+GivenPart-first a b x y part =
+    (part.0, omega (arith, part.1, length-append x y), subst (λ (bytes : List ℕ). Given a b bytes) (sym (take-append-le part.0 x y (omega (arith, part.1)))) part.2)
+
+-- a whole piece, and then a front of the next
+pub GivenPart-then : (a b c : Option (List ℕ)) (x y : List ℕ) → Given a b x → GivenPart b c y → GivenPart a c (x ++ y)
+GivenPart-then a b c x y whole part =
+    (length x + part.0, omega (arith, part.1, length-append x y), subst (λ (bytes : List ℕ). Given a c bytes) (sym (take-append-add x y part.0)) (Given-then a b c x (take part.0 y) whole part.2))
+
+-- the whole of the first of two pieces is a front of both, where the second has a byte
+pub GivenPart-whole : (a b : Option (List ℕ)) (x y : List ℕ) → 0 < length y → Given a b x → GivenPart a b (x ++ y)
+GivenPart-whole a b x y some whole =
+    (length x, omega (arith, some, length-append x y), subst (λ (bytes : List ℕ). Given a b bytes) (sym (take-append_seam x y)) whole)

@@ -1,5 +1,5 @@
 -- What a device tells of its bytes: `None` where it tells nothing.
-use Rattle.std.specs.Prelude.{◌≡◌, ℕ, List, ◌++◌, Option, IfSome}
+use Rattle.std.specs.Prelude.{◌≡◌, ◌<◌, ℕ, List, ◌++◌, length, take, Option, IfSome}
 use Rattle.std.specs.Option.{option_map}
 
 -- a fact of what is told, which asks nothing where nothing is
@@ -10,6 +10,14 @@ WhereTold told P = IfSome told P
 abbrev pub Had : Option (List ℕ) → Option (List ℕ) → List ℕ → Type 0
 Had before now bytes = before ≡ option_map (λ rest. bytes ++ rest) now
 
+-- It had a front of these bytes, and not all of them.
+abbrev pub HadPart : Option (List ℕ) → Option (List ℕ) → List ℕ → Type 0
+HadPart before now bytes = (n : ℕ) × (n < length bytes) × Had before now (take n bytes)
+
 -- A sink was given these bytes, after all that it had been given before.
 abbrev pub Given : Option (List ℕ) → Option (List ℕ) → List ℕ → Type 0
 Given before now bytes = now ≡ option_map (λ written. written ++ bytes) before
+
+-- It was given a front of these bytes, and not all of them.
+abbrev pub GivenPart : Option (List ℕ) → Option (List ℕ) → List ℕ → Type 0
+GivenPart before now bytes = (n : ℕ) × (n < length bytes) × Given before now (take n bytes)

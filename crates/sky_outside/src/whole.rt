@@ -1,6 +1,6 @@
-ghost use Rattle.std.specs.Prelude.{◌≡◌, ◌<◌, ℕ, [], length, take, OnOk, OnErr, IsErr, IsErrOf};
+ghost use Rattle.std.specs.Prelude.{◌≡◌, [], OnOk, OnErr, IsErr, IsErrOf};
 ghost use Rattle.sky_outside.specs.Count.{Counts};
-ghost use Rattle.sky_outside.specs.Told.{WhereTold, Had, Given};
+ghost use Rattle.sky_outside.specs.Told.{WhereTold, Had, HadPart, Given, GivenPart};
 ghost use Rattle.sky_outside.specs.declared.whole.FillFault.TheVariants.{Broken};
 
 use crate::stream::{Failed, Sink, Source};
@@ -26,8 +26,7 @@ impl From<Failed> for FillFault {
 /// front of the buffer holds what was taken until then.
 pub fn fill<S: Source>(source: &mut S, buf: &mut [u8]) -> Result<(), FillFault>
     ensures ok { OnOk result (Had (S.left source.old) (S.left source.new) buf.new) }
-    ensures partly { OnErr result ((n : ℕ) × (n < length buf.old)
-        × Had (S.left source.old) (S.left source.new) (take n buf.new)) }
+    ensures partly { OnErr result (HadPart (S.left source.old) (S.left source.new) buf.new) }
     ensures early { IsErrOf result FillFault.Early → WhereTold (S.left source.new) (λ rest. rest ≡ []) }
     ensures cause { Counts (S.faults source.old) (S.faults source.new) (IsErrOf result FillFault.Broken) }
 {
@@ -46,8 +45,7 @@ pub fn fill<S: Source>(source: &mut S, buf: &mut [u8]) -> Result<(), FillFault>
 /// front of the piece.
 pub fn write_all<K: Sink>(sink: &mut K, bytes: &[u8]) -> Result<(), Failed>
     ensures ok { OnOk result (Given (K.written sink.old) (K.written sink.new) bytes.now) }
-    ensures partly { OnErr result ((n : ℕ) × (n < length bytes.now)
-        × Given (K.written sink.old) (K.written sink.new) (take n bytes.now)) }
+    ensures partly { OnErr result (GivenPart (K.written sink.old) (K.written sink.new) bytes.now) }
     ensures cause { Counts (K.faults sink.old) (K.faults sink.new) (IsErr result) }
 {
     let mut at = 0;

@@ -1,0 +1,16 @@
+//! Devices in memory, for tests and for runs that keep nothing: sources and sinks whose calls fail
+//! where a list says so, others that never fail, and a site that never fails.
+#![tactic(auto)]
+
+mod calls;
+mod objects;
+mod sink;
+mod site;
+mod source;
+
+pub use sink::{MemSink, SureSink};
+pub use site::SureSite;
+pub use source::{MemSource, SureSource};
+
+#[cfg(test)]
+mod tests;

@@ -1,0 +1,163 @@
+ghost use Rattle.std.specs.Prelude.{◌≡◌, ◌+◌, ◌≤◌, ◌<◌, ◌^◌, length};
+
+use super::*;
+use sky_base::{Dir, SegName};
+use sky_outside::{Cloud, Disk, Failed, GetFault, Held, PutFault, Sink, Site, Source};
+use std::process::Abort;
+use std::test::Fail;
+
+fn pull<S: Source>(source: &mut S, buf: &mut [u8]) -> Result<usize, Failed> {
+    source.read(buf)
+}
+
+fn push<K: Sink>(sink: &mut K, bytes: &[u8]) -> Result<usize, Failed> {
+    sink.write(bytes)
+}
+
+fn write_and_read<D: Disk>(
+    disk: &mut D,
+    at: u64,
+    bytes: &[u8],
+    buf: &mut [u8],
+) -> Result<(), Failed>
+    requires within { at + length bytes.now ≤ D.bytes_of disk.old }
+    requires same { length buf.old ≡ length bytes.now }
+    ensures { D.bytes_of disk.new ≡ D.bytes_of disk.old }
+{
+    disk.write_at(at, bytes)?;
+    disk.sync()?;
+    disk.read(at, buf)
+}
+
+fn store<C: Cloud>(cloud: &mut C, name: SegName, bytes: &[u8]) -> Result<(), PutFault>
+    requires run { name.run < 2 ^ 62 }
+    requires seq { name.seq < 2 ^ 62 }
+{
+    cloud.put(name, bytes)
+}
+
+fn discard<P: Site>(site: &mut P, name: SegName) -> Result<(), Failed>
+    requires run { name.run < 2 ^ 62 }
+    requires seq { name.seq < 2 ^ 62 }
+{
+    site.remove(name)
+}
+
+#[test]
+fn a_source_gives_its_bytes_in_pieces(rt: HostRuntime) -> Result<(), Fail> {
+    let alloc = rt.alloc();
+    let mut source = MemSource::new([1, 2, 3, 4, 5].to_vec(alloc)?, [1, 3].to_vec(alloc)?);
+    let mut buf = [0u8; 2];
+    // A call that fails takes nothing, and the next goes on.
+    for (want, bytes) in [
+        (Ok(2), [1, 2]),
+        (Err(Failed), [1, 2]),
+        (Ok(2), [3, 4]),
+        (Err(Failed), [3, 4]),
+        (Ok(1), [5, 4]),
+        (Ok(0), [5, 4]),
+    ] {
+        assert_eq!(rt; pull(&mut source, &mut buf), want);
+        assert_eq!(rt; buf, bytes);
+    }
+    let mut source = SureSource::new([1, 2, 3].to_vec(alloc)?);
+    for (want, bytes) in [(Ok(2), [1, 2]), (Ok(1), [3, 2]), (Ok(0), [3, 2])] {
+        assert_eq!(rt; pull(&mut source, &mut buf), want);
+        assert_eq!(rt; buf, bytes);
+    }
+    Ok(())
+}
+
+#[test]
+fn a_sink_takes_what_it_has_room_for(rt: HostRuntime) -> Result<(), Fail> {
+    let alloc = rt.alloc();
+    let mut sink = MemSink::new(alloc, 5, [1].to_vec(alloc)?)?;
+    for (piece, want) in [
+        ("ab", Ok(2)),
+        ("cd", Err(Failed)),
+        ("cdef", Err(Failed)),
+        ("", Ok(0)),
+        ("cde", Ok(3)),
+        ("f", Err(Failed)),
+    ] {
+        assert_eq!(rt; push(&mut sink, piece.as_bytes()), want, "of {piece}");
+    }
+    assert_eq!(rt; sink.bytes(), b"abcde".as_slice());
+    assert_eq!(rt; push(&mut SureSink::new(), b"abc"), Ok(3));
+    Ok(())
+}
+
+#[test]
+fn a_disk_keeps_what_was_written(rt: HostRuntime) -> Result<(), Fail> {
+    let mut site = SureSite::new(rt.alloc(), 8)?;
+    let mut image = [9u8; 8];
+    site.read(0, &mut image)?;
+    assert_eq!(rt; image, [0; 8]);
+    let mut buf = [9u8; 3];
+    write_and_read(&mut site, 5, b"abc", &mut buf)?;
+    assert_eq!(rt; buf, *b"abc");
+    site.read(0, &mut image)?;
+    assert_eq!(rt; image, *b"\0\0\0\0\0abc");
+    assert_eq!(rt; site.size(), 8);
+    Ok(())
+}
+
+fn name(seq: u64) -> SegName
+    requires { seq < 2 ^ 62 }
+    ensures run { result.run < 2 ^ 62 }
+    ensures seq { result.seq < 2 ^ 62 }
+{
+    SegName {
+        dir: Dir::Proxy,
+        run: 1,
+        seq,
+        last: false,
+    }
+}
+
+fn length_of(seq: u64, length: u64) -> Held
+    requires { seq < 2 ^ 62 }
+{
+    Held {
+        name: name(seq),
+        length,
+    }
+}
+
+// Reads three bytes of each object, where 1 is `hello!` and 2 is `world`.
+fn check_reads(rt: &impl Abort, site: &mut SureSite) {
+    let mut buf = [0u8; 3];
+    for (seq, offset, want, bytes) in [
+        (1, 2, Ok(()), *b"llo"),
+        (2, 2, Ok(()), *b"rld"),
+        (2, 3, Err(GetFault::Short { held: 5 }), *b"rld"),
+        (2, u64::MAX, Err(GetFault::Short { held: 5 }), *b"rld"),
+        (3, 0, Err(GetFault::Missing), *b"rld"),
+    ] {
+        assert_eq!(rt;
+            site.get(name(seq), offset, &mut buf),
+            want,
+            "of {seq} at {offset}"
+        );
+        assert_eq!(rt; buf, bytes, "of {seq} at {offset}");
+    }
+}
+
+#[test]
+fn a_cloud_holds_objects(rt: HostRuntime) -> Result<(), Fail> {
+    let mut site = SureSite::new(rt.alloc(), 0)?;
+    store(&mut site, name(2), b"world")?;
+    store(&mut site, name(1), b"hi")?;
+    store(&mut site, name(1), b"hello!")?;
+    assert_eq!(rt;
+        site.list()?.as_slice(),
+        [length_of(1, 6), length_of(2, 5)].as_slice()
+    );
+    check_reads(&rt, &mut site);
+    discard(&mut site, name(1))?;
+    discard(&mut site, name(3))?;
+    let mut buf = [0u8; 3];
+    assert_eq!(rt; site.get(name(1), 0, &mut buf), Err(GetFault::Missing));
+    assert_eq!(rt; site.list()?.as_slice(), [length_of(2, 5)].as_slice());
+    Ok(())
+}

@@ -1,0 +1,5 @@
+pub mod Sound
+pub mod Machine
+pub mod Reading
+pub mod Feeding
+pub mod Examples

@@ -1,0 +1,5 @@
+pub mod Record
+pub mod Stream
+pub mod Parts
+pub mod Inside
+pub mod Feeding

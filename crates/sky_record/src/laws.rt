@@ -1,0 +1,23 @@
+//! What is true of every stream: functions with nothing to do, whose clauses are the laws.
+
+ghost use Rattle.std.specs.Prelude.{◌≡◌, ℕ, ◌<◌, ◌≤◌, List, [], ◌++◌, length, map};
+ghost use Rattle.std.specs.List.{flat_map, AllByRecursion};
+ghost use Rattle.sky_record.specs.Record.{Fragment, spelling, joined, IsWhole, IsRecord};
+ghost use Rattle.sky_record.specs.Stream.{Received, nothing, IsOpen, Reads};
+
+use crate::RECORD_LIMIT;
+
+/// Each stream reads as some records and an end, and in no other way, whichever fragments it is read as. Records that
+/// were cut into fragments in any way read as those records, and each part of a record that is not all of it reads as
+/// no record and the end that it has come to.
+pub fn each_stream_has_one_reading()
+    ensures some { (stream : List ℕ) → AllByRecursion (λ byte. byte < 256) stream
+        → (records : List (List ℕ)) × (end : Received) × Reads stream records end }
+    ensures one { (stream : List ℕ) (records others : List (List ℕ)) (end other : Received)
+        → Reads stream records end → Reads stream others other → (records ≡ others) × (end ≡ other) }
+    ensures any_cut { (cuts : List (List Fragment))
+        → AllByRecursion (λ cut. IsWhole cut × (length (joined cut) ≤ RECORD_LIMIT)) cuts
+        → Reads (flat_map spelling cuts) (map joined cuts) nothing }
+    ensures part { (text more bytes : List ℕ) → AllByRecursion (λ byte. byte < 256) text → 0 < length more
+        → IsRecord (text ++ more) bytes → (end : Received) × IsOpen end.progress × Reads text [] end }
+{}

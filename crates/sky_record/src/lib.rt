@@ -1,0 +1,16 @@
+//! The records of a stream (record marking, RFC 5531, section 11), however the stream is cut into pieces.
+#![tactic(auto)]
+
+mod assembler;
+mod laws;
+mod stream;
+
+pub use assembler::{Assembler, Fed};
+pub use laws::each_stream_has_one_reading;
+pub use stream::assemble;
+
+/// The most bytes that a record may have, without its headers: 131,072.
+pub const RECORD_LIMIT: usize = 131_072;
+
+#[cfg(test)]
+mod tests;
