@@ -1,1 +1,4 @@
+pub mod Access
+pub mod Limits
+pub mod Listing
 pub mod Status

@@ -1,15 +1,22 @@
-//! The plain values that every layer of the proxy speaks of: moments, the names of objects in the
-//! cloud, the paths on the command line, the want of memory, and the statuses with which a run ends.
+//! The plain values that every layer of the proxy speaks of: moments, names, attributes and
+//! credentials, the names of objects in the cloud, the paths on the command line, the want of memory,
+//! and the statuses with which a run ends.
 #![tactic(auto)]
 
+mod attr;
+mod cred;
 mod memory;
 mod moment;
+mod name;
 mod object;
 mod paths;
 mod status;
 
+pub use attr::{Attr, Device, Kind};
+pub use cred::{Cred, Gids, Want};
 pub use memory::NoMemory;
 pub use moment::Moment;
+pub use name::Name;
 pub use object::{Dir, SegName};
 pub use paths::{Paths, Text};
 pub use status::Status;

@@ -2,7 +2,7 @@ ghost use Rattle.std.specs.Prelude.{◌≡◌, string_bytes};
 
 use std::marker::Model;
 
-/// A text of a value that contracts see as its bytes.
+/// A text, which contracts see as its bytes in UTF-8.
 #[derive(Debug, Drop)]
 pub struct Text {
     string: String,

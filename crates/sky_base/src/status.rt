@@ -1,4 +1,4 @@
-ghost use Rattle.std.specs.Prelude.{◌≡◌};
+ghost use Rattle.std.specs.Prelude.{◌≡◌, ◌<◌};
 ghost use Rattle.sky_base.specs.Status.{number_of, place_of};
 
 /// How a run ends. The program exits with the status's number.
@@ -30,7 +30,8 @@ pub enum Status {
 impl Status {
     /// The number that stands for it, 0 to 11.
     pub fn number(self) -> u32
-        ensures { result ≡ number_of self }
+        ensures value { result ≡ number_of self }
+        ensures small { result < 16 }
     {
         match self {
             Status::Done => 0,

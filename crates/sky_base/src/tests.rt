@@ -40,3 +40,31 @@ fn a_text_is_given_back(rt: HostRuntime) -> Result<(), Fail> {
     assert_eq!(rt; text.into_string().as_str(), "a/b");
     Ok(())
 }
+
+#[test]
+fn a_name_has_at_most_255_bytes(rt: HostRuntime) -> Result<(), Fail> {
+    let longest = Name::new([97; 255].to_vec(rt.alloc())?).ok_or("255")?;
+    assert_eq!(rt; longest.as_bytes().len(), 255);
+    assert_eq!(rt; longest.into_bytes().len(), 255);
+    assert!(rt; Name::new([97; 256].to_vec(rt.alloc())?).is_none());
+    Ok(())
+}
+
+#[test]
+fn a_credential_keeps_sixteen_groups(rt: HostRuntime) {
+    let mut gids = Gids::new();
+    for gid in 0..16 {
+        if !gids.is_full() {
+            gids.push(gid);
+        }
+    }
+    assert!(rt; gids.is_full());
+    assert_eq!(rt; gids.as_slice().len(), 16);
+    let cred = Cred {
+        uid: 1,
+        gid: 2,
+        gids,
+    };
+    assert_eq!(rt; cred.uid + cred.gid, 3);
+    assert_eq!(rt; cred.gids.as_slice().last(), Some(&15));
+}

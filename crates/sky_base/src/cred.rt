@@ -1,0 +1,82 @@
+ghost use Rattle.std.specs.Prelude.{◌≡◌, ◌≤◌, ◌<◌, ◌↔◌, [], ◌∷◌, ◌++◌, length, IsTrue, Contains};
+
+use std::marker::Model;
+
+/// What a caller asks to do with an object.
+#[derive(Clone, Copy, Debug, PartialEq, Eq)]
+pub enum Want {
+    /// To read a file or list a directory.
+    Read,
+    /// To write a file or change a directory's entries.
+    Write,
+    /// To execute a file or search a directory.
+    Execute,
+}
+
+/// The further groups of a caller (`authsys_parms`, RFC 5531 appendix A): at most 16. Contracts see them as a list.
+#[derive(Debug, Drop)]
+pub struct Gids {
+    ids: [u32; 16],
+    count: usize,
+}
+
+impl Model for Gids {
+    ghost use Rattle.std.specs.Prelude.{List, ℕ, ◌≤◌, take};
+
+    ghost Value = { List ℕ };
+
+    ghost view = { λ g. take g.count g.ids };
+
+    ghost invariant = { λ g. g.count ≤ 16 };
+}
+
+impl Gids {
+    /// The most groups that it keeps.
+    pub const MOST: usize = 16;
+
+    /// No groups.
+    pub fn new() -> Gids
+        ensures { result ≡ [] }
+    {
+        Gids {
+            ids: [0; 16],
+            count: 0,
+        }
+    }
+
+    /// Whether there is room for no further group.
+    pub fn is_full(&self) -> bool
+        ensures full { IsTrue result ↔ (length self.now ≡ 16) }
+        ensures most { length self.now ≤ 16 }
+    {
+        self.count == Gids::MOST
+    }
+
+    /// Adds a group behind the others.
+    pub fn push(&mut self, gid: u32)
+        requires { length self.old < 16 }
+        ensures { self.new ≡ self.old ++ gid ∷ [] }
+    {
+        self.ids[self.count] = gid;
+        self.count += 1;
+    }
+
+    /// The groups, to read.
+    pub fn as_slice(&self) -> &[u32]
+        ensures same { result.now ≡ self.now }
+        ensures most { length self.now ≤ 16 }
+    {
+        &self.ids[..self.count]
+    }
+}
+
+/// Who calls (`authsys_parms`, RFC 5531 appendix A).
+#[derive(Debug, Drop)]
+pub struct Cred {
+    /// The user.
+    pub uid: u32,
+    /// The user's group.
+    pub gid: u32,
+    /// The user's further groups.
+    pub gids: Gids,
+}
