@@ -1,0 +1,9 @@
+pub mod FrameLaws
+pub mod RecordLaws
+pub mod CallLaws
+pub mod StepLaws
+pub mod RunLaws
+pub mod ReadingLaws
+pub mod ExactLaws
+pub mod RunSteps
+pub mod RunBegins

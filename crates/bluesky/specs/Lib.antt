@@ -1,0 +1,11 @@
+pub mod Frame
+pub mod Record
+pub mod RecordReading
+pub mod Meaning
+pub mod Run
+pub mod Stop
+pub mod Script
+pub mod Faults
+pub mod Rpc
+pub mod Nfs
+pub mod World
