@@ -1,0 +1,11 @@
+mod Checks
+pub mod CreateLemmas
+pub mod DropLemmas
+pub mod GrowLemmas
+pub mod HandleLemmas
+pub mod KeptLemmas
+pub mod LinkLemmas
+pub mod ProcedureLemmas
+pub mod RemoveLemmas
+pub mod ValidityLemmas
+pub mod WayLemmas

@@ -1,0 +1,12 @@
+pub mod Calls
+pub mod Changes
+pub mod Handles
+pub mod History
+pub mod Laws
+pub mod NfsStatus
+pub mod Procedure
+pub mod Procedures
+pub mod Results
+pub mod Rules
+pub mod Tree
+pub mod Validity

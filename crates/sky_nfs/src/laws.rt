@@ -1,0 +1,56 @@
+ghost use Rattle.std.specs.Prelude.{◌≡◌, ℕ, ◌<◌, ◌^◌, List, Option, Some, false};
+ghost use Rattle.sky_base.specs.declared.cred.Cred.{Cred};
+ghost use Rattle.sky_base.specs.declared.moment.Moment.{Moment};
+ghost use Rattle.sky_nfs.specs.Calls.{is_change};
+ghost use Rattle.sky_nfs.specs.Handles.{handle_bytes, volume_in, fileid_in};
+ghost use Rattle.sky_nfs.specs.Laws.{KeepsValid};
+ghost use Rattle.sky_nfs.specs.Procedure.{procedure, refusal_of};
+ghost use Rattle.sky_nfs.specs.Tree.{Tree, Node, node_at, attributes_of, links_of};
+ghost use Rattle.sky_nfs.specs.Validity.{IsValidTree};
+ghost use Rattle.sky_nfs.specs.declared.call.Call.{Call};
+ghost use Rattle.sky_nfs.specs.declared.call.At.{At};
+ghost use Rattle.sky_nfs.specs.declared.call.How.{How};
+ghost use Rattle.sky_nfs.specs.declared.call.SetAttr.{SetAttr};
+ghost use Rattle.sky_nfs.specs.declared.call.Stable.{Stable};
+ghost use Rattle.sky_nfs.specs.declared.status.NfsStatus.{NfsStatus};
+
+/// A call that is refused leaves the tree, and so does a call of a procedure that only reads.
+pub fn refusals_and_readings_leave_the_tree()
+    ensures refused { (t : Tree) (epoch : ℕ) (cred : Cred) (call : Call) (now : Moment) (status : NfsStatus)
+        → refusal_of t cred call ≡ Some status → (procedure t epoch cred call now).tree ≡ t }
+    ensures reading { (t : Tree) (epoch : ℕ) (cred : Cred) (call : Call) (now : Moment)
+        → is_change call ≡ false → (procedure t epoch cred call now).tree ≡ t }
+{}
+
+/// The epoch is told by write verifiers alone: the tree after a call is the same in every epoch.
+pub fn epochs_leave_the_tree()
+    ensures { (t : Tree) (epoch other : ℕ) (cred : Cred) (call : Call) (now : Moment)
+        → (procedure t epoch cred call now).tree ≡ (procedure t other cred call now).tree }
+{}
+
+/// In a valid tree the number of links that a node tells is counted from the entries.
+pub fn links_are_counted()
+    ensures { (t : Tree) (fileid : ℕ) (node : Node)
+        → IsValidTree t → node_at t.nodes fileid ≡ Some node
+        → (attributes_of t.volume fileid node).nlink ≡ links_of t fileid node }
+{}
+
+/// A valid tree stays valid under each procedure but RENAME, of which it isn't proved yet.
+pub fn valid_trees_stay_valid()
+    ensures setattr { (object : List ℕ) (set : SetAttr) (guard : Option Moment) → KeepsValid (Call.SetAttr object set guard) }
+    ensures write { (file : List ℕ) (offset count : ℕ) (how : Stable) (bytes : List ℕ)
+        → KeepsValid (Call.Write file offset count how bytes) }
+    ensures create { (at : At) (how : How) → KeepsValid (Call.Create at how) }
+    ensures mkdir { (at : At) (set : SetAttr) → KeepsValid (Call.Mkdir at set) }
+    ensures symlink { (at : At) (set : SetAttr) (text : List ℕ) → KeepsValid (Call.Symlink at set text) }
+    ensures remove { (at : At) → KeepsValid (Call.Remove at) }
+    ensures rmdir { (at : At) → KeepsValid (Call.Rmdir at) }
+    ensures link { (file : List ℕ) (at : At) → KeepsValid (Call.Link file at) }
+    ensures reading { (call : Call) → is_change call ≡ false → KeepsValid call }
+{}
+
+/// A handle gives back the volume and the fileid that it was made of, so that no two nodes have one handle.
+pub fn handles_are_read_back()
+    ensures volume { (volume fileid : ℕ) → volume < 2 ^ 64 → volume_in (handle_bytes volume fileid) ≡ volume }
+    ensures fileid { (volume fileid : ℕ) → fileid < 2 ^ 64 → fileid_in (handle_bytes volume fileid) ≡ fileid }
+{}
