@@ -1,0 +1,6 @@
+pub mod RowsLemmas
+pub mod OrderlyLemmas
+pub mod KeptLemmas
+pub mod KeptSteps
+pub mod SizeLemmas
+pub mod CommandLemmas
