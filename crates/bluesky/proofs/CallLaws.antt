@@ -1,12 +1,14 @@
 -- What is read of a record is spelled so, and what is spelled so is read.
-use Rattle.std.proofs.Common.{◌≡◌, ◌+◌, ◌^◌, ◌≤◌, ◌<◌, ℕ, true, eqb, Some, List, ◌++◌, length, refl, ap, append_assoc, arith}
+use Rattle.std.proofs.Common.{◌≡◌, ◌+◌, ◌^◌, ◌≤◌, ◌<◌, ℕ, true, eqb, Some, Ok, List, [], ◌++◌, length, refl, sym, ap, ◌∙◌, append_assoc, arith}
 use Rattle.std.specs.Result.{result_ok}
 use Rattle.std.proofs.lemmas.Bool.Decides.{nat_tests}
 use Rattle.std.proofs.lemmas.List.{append-nil, length-append}
-use Rattle.sky_xdr.specs.Spelling.{uint}
+use Rattle.sky_xdr.specs.Spelling.{uint, IsOpaque}
+use Rattle.sky_xdr.specs.Reading.{opaque_at}
+use Rattle.sky_xdr.proofs.Opaques.{accepted_again, length-IsOpaque}
 use Rattle.sky_xdr.proofs.Numbers.{uint_again, length-uint}
-use Rattle.bluesky.specs.Record.{CallMessage, call_message, fragment, Call, Null, IsCall, IsNfsCall, IsArgs, procedure_of, nfs_program, nfs_version}
-use Rattle.bluesky.specs.RecordReading.{word_at, after_word, after_no_auth, call_at, args_at, fragment_at, nfs_call_at, record_at}
+use Rattle.bluesky.specs.Record.{CallMessage, call_message, fragment, Call, Null, GetAttr, handle_most, IsCall, IsNfsCall, IsArgs, procedure_of, nfs_program, nfs_version}
+use Rattle.bluesky.specs.RecordReading.{word_at, after_word, after_no_auth, call_at, handle_at, args_at, fragment_at, nfs_call_at, record_at}
 
 -- ---- what is spelled is read
 
@@ -15,6 +17,7 @@ eqb-refl n = grind (arith, nat_tests)
 
 procedure_fits : (call : Call) → procedure_of call < 2 ^ 32
 procedure_fits Null = omega arith
+procedure_fits (GetAttr object) = omega arith
 
 word_again : (n : ℕ) (rest : List ℕ) → n < 2 ^ 32 → word_at (uint n ++ rest) ≡ Some (n, rest)
 unfolding word_at
@@ -49,9 +52,16 @@ unfolding call_at words_of
 call_again c fits =
     rw (call-words c) (rw (word_again c.xid _ fits.xid, after_again 0 _ (omega arith), after_again 2 _ (omega arith), word_again c.program _ fits.program, word_again c.version _ fits.version, word_again c.procedure _ fits.procedure, no_auth_again _, no_auth_again _) refl)
 
+handle_again : (args object : List ℕ) → IsOpaque args object → length object ≤ handle_most → handle_at args ≡ Some object
+unfolding handle_at
+handle_again args object accepted most =
+    let read : opaque_at handle_most args ≡ Ok (object, []) = ap (opaque_at handle_most) (sym (append-nil args)) ∙ accepted_again handle_most args object [] accepted most (omega (arith, most)) in
+    rw read refl
+
 args_again : (args : List ℕ) (call : Call) → IsArgs args call → args_at (procedure_of call) args ≡ Some call
 unfolding args_at
 args_again args Null accepted = rw accepted refl
+args_again args (GetAttr object) accepted = rw (handle_again args object accepted.0 accepted.1) refl
 
 fragment_again : (bytes : List ℕ) → length bytes < 2 ^ 31 → fragment_at (fragment bytes) ≡ Some bytes
 unfolding fragment_at
@@ -60,8 +70,9 @@ fragment_again bytes short =
     rw (word_again (2 ^ 31 + length bytes) bytes (omega arith), same) refl
 
 -- the arguments of a call are short
-args_short : (args : List ℕ) (call : Call) → IsArgs args call → length args ≤ 68
+args_short : (args : List ℕ) (call : Call) → IsArgs args call → length args ≤ 71
 args_short args Null accepted = rw accepted (omega arith)
+args_short args (GetAttr object) accepted = omega (arith, length-IsOpaque args object accepted.0, accepted.1)
 
 -- a call of NFS is read as that call
 nfs_again : (message : CallMessage) (xid : ℕ) (call : Call) → IsNfsCall message xid call → nfs_call_at message ≡ Some (xid, call)

@@ -1,4 +1,5 @@
 pub mod FrameLaws
+pub mod HandleLaws
 pub mod RecordLaws
 pub mod CallLaws
 pub mod StepLaws

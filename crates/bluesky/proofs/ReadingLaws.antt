@@ -8,6 +8,7 @@ use Rattle.sky_xdr.proofs.Numbers.{uint_same, length-uint}
 use Rattle.bluesky.specs.Frame.{InFrame, Begin, Bytes, End, Parts, header, frame, parts_of, in_frame, in_frames, is_header, IsInFrame, IsRefused, IsCutShort, within_header, within_payload, OutFrame, Reply}
 use Rattle.bluesky.specs.Meaning.{State, Session, Open, Absent, IsAnswered, Step, StepBytes, Steps, IsStep}
 use Rattle.bluesky.specs.Run.{IsMisplaced, no_frame, no_step}
+use Rattle.sky_nfs.specs.Tree.{Tree}
 use Rattle.bluesky.specs.Record.{Call, results_of, fragment, reply_message}
 use Rattle.bluesky.proofs.FrameLaws.{known_fits}
 use Rattle.bluesky.proofs.CallLaws.{record_again}
@@ -86,25 +87,25 @@ frame_same f g x y i j e =
 -- ---- steps
 
 -- the reply to a call that was read
-reply_to : ℕ × Call → List ℕ
-reply_to c = fragment (reply_message c.0 (results_of c.1))
+reply_to : Tree → ℕ × Call → List ℕ
+reply_to tree c = fragment (reply_message c.0 (results_of tree c.1))
 
 -- what is in Some
 read_once : (c d : ℕ × Call) → Some c ≡ Some d → c ≡ d
 read_once c d e = cc
 
 -- a record has one reply
-pub answer_same : (bytes a b : List ℕ) → IsAnswered bytes a → IsAnswered bytes b → a ≡ b
+pub answer_same : (tree : Tree) (bytes a b : List ℕ) → IsAnswered tree bytes a → IsAnswered tree bytes b → a ≡ b
 unfolding reply_to
-answer_same bytes a b p q =
+answer_same tree bytes a b p q =
     let one : Some (p.xid, p.call) ≡ Some (q.xid, q.call) = sym (record_again bytes p.xid p.call p.called) ∙ record_again bytes q.xid q.call q.called in
-    p.replied ∙ ap reply_to (read_once (p.xid, p.call) (q.xid, q.call) one) ∙ sym q.replied
+    p.replied ∙ ap (reply_to tree) (read_once (p.xid, p.call) (q.xid, q.call) one) ∙ sym q.replied
 
 -- the next bytes of a session have one answer
 bytes_same : (at : Option Session) (s : State) (session : ℕ) (payload : List ℕ) (o1 o2 : List OutFrame) (s1 s2 : State)
     → StepBytes at s session payload o1 s1 → StepBytes at s session payload o2 s2 → (o1 ≡ o2) × (s1 ≡ s2)
 bytes_same (Some Open) s session payload o1 o2 s1 s2 a b =
-    let reply = answer_same payload a.0 b.0 a.1 b.1 in
+    let reply = answer_same s.tree payload a.0 b.0 a.1 b.1 in
     (a.2 ∙ ap (λ (r : List ℕ). Reply session r ∷ []) reply ∙ sym b.2, a.3 ∙ sym b.3)
 bytes_same (Some Absent) s session payload o1 o2 s1 s2 a b = (a.0 ∙ sym b.0, a.1 ∙ sym b.1)
 bytes_same None s session payload o1 o2 s1 s2 a b = (a.0 ∙ sym b.0, a.1 ∙ sym b.1)

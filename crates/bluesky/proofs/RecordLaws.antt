@@ -1,7 +1,8 @@
 -- Laws of records of RPC messages.
 use Rattle.std.proofs.Common.{◌≡◌, ◌+◌, ◌^◌, ◌≤◌, ℕ, List, ◌++◌, length, take, drop, sym, ap, ◌∙◌, append_assoc, arith}
-use Rattle.std.proofs.Math.Seq.{take-append-add}
-use Rattle.std.proofs.lemmas.List.{take-append-drop, drop-drop, length-append, length-take-le, length-drop}
+use Rattle.std.proofs.Math.Seq.{take-append-add, drop-append_seam}
+use Rattle.std.proofs.lemmas.List.{take-append-le, take-append-drop, drop-drop, length-append, length-take-le, length-drop}
+use borrow.Rule.Slice.PartMut.{put_mid, post_of}
 use Rattle.sky_xdr.specs.Spelling.{uint}
 use Rattle.sky_xdr.proofs.Numbers.{length-uint}
 use Rattle.bluesky.specs.Record.{fragment, reply_message, reply_head, no_auth}
@@ -35,3 +36,11 @@ pub seven_words : (a b c d e f g h : List ℕ) → b ≡ drop 4 a → c ≡ drop
 seven_words a b c d e f g h pb pc pd pe pf pg ph =
     let all : h ≡ drop 4 (drop 4 (drop 4 (drop 4 (drop 4 (drop 4 (drop 4 a)))))) = ph ∙ ap (drop 4) (pg ∙ ap (drop 4) (pf ∙ ap (drop 4) (pe ∙ ap (drop 4) (pd ∙ ap (drop 4) (pc ∙ ap (drop 4) pb))))) in
     all ∙ simp drop-drop
+
+-- the first n of what was written behind a front that stays
+pub written_behind : (buffer out : List ℕ) (at k n : ℕ) → at ≤ length buffer → n ≤ length out → take n (drop at (put_mid at k buffer out)) ≡ take n out
+written_behind buffer out at k n within fits =
+    let front : length (take at buffer) ≡ at = length-take-le at buffer within in
+    let rest : List ℕ = out ++ post_of at k buffer in
+    let cut : drop at (take at buffer ++ rest) ≡ rest = ap (λ (i : ℕ). drop i (take at buffer ++ rest)) (sym front) ∙ drop-append_seam (take at buffer) rest in
+    ap (take n) cut ∙ take-append-le n out (post_of at k buffer) fits

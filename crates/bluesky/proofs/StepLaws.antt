@@ -10,11 +10,11 @@ pub one_out : (f : OutFrame) → out_frames (f ∷ []) ≡ out_frame f
 one_out f = append-nil (out_frame f)
 
 -- a session that has begun is answered
-pub open_step : (s : State) (n : ℕ) (payload reply : List ℕ) → slice_get s.sessions n ≡ Some Open → IsAnswered payload reply → Step s (Bytes n payload) (Reply n reply ∷ []) s
+pub open_step : (s : State) (n : ℕ) (payload reply : List ℕ) → slice_get s.sessions n ≡ Some Open → IsAnswered s.tree payload reply → Step s (Bytes n payload) (Reply n reply ∷ []) s
 open_step s n payload reply begun answered = rw begun (reply, answered, refl, refl)
 
 -- and can't be, where its record can't
-pub open_no_step : (s : State) (n : ℕ) (payload : List ℕ) → slice_get s.sessions n ≡ Some Open → IsUnanswerable payload → HasNoStep s (Bytes n payload)
+pub open_no_step : (s : State) (n : ℕ) (payload : List ℕ) → slice_get s.sessions n ≡ Some Open → IsUnanswerable s.tree payload → HasNoStep s (Bytes n payload)
 open_no_step s n payload begun none outs new step = let h = rw begun at step in none h.0 h.1
 
 -- a sink that was given one frame was given its frames

@@ -1,4 +1,5 @@
 pub mod Frame
+pub mod Results
 pub mod Record
 pub mod RecordReading
 pub mod Meaning

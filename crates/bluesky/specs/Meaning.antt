@@ -1,6 +1,7 @@
 -- What a recorded session means: how the frames that go in and those that come out belong together.
 use Rattle.std.specs.Prelude.{◌≡◌, ℕ, false, List, [], ◌∷◌, ◌++◌, Option, Some, None, replicate, slice_get, slice_set}
 use Rattle.bluesky.specs.Frame.{InFrame, Begin, Bytes, End, OutFrame, Reply, Opened, session_count}
+use Rattle.sky_nfs.specs.Tree.{Tree, empty_tree}
 use Rattle.bluesky.specs.Record.{Call, IsCall, fragment, reply_message, results_of}
 
 -- a session: it hasn't begun, or it has
@@ -12,27 +13,32 @@ pub data Session : Type 0 where
 pub record State : Type 0 where
   -- the number of this opening
   pub epoch : ℕ
+  pub tree : Tree
   pub sessions : List Session
 
--- at the opening: the first epoch, and no session has begun
-abbrev pub start : State
-start = record { epoch = 1; sessions = replicate session_count Absent }
+-- the number of the volume
+abbrev pub volume : ℕ
+volume = 1
 
--- The record is a call, and the reply is its own.
-pub record IsAnswered (bytes reply : List ℕ) : Type 0 where
+-- at the opening: the first epoch, the empty tree, and no session has begun
+abbrev pub start : State
+start = record { epoch = 1; tree = empty_tree volume; sessions = replicate session_count Absent }
+
+-- The record is a call, and the reply is its own in this tree.
+pub record IsAnswered (tree : Tree) (bytes reply : List ℕ) : Type 0 where
   pub xid : ℕ
   pub call : Call
   pub called : IsCall bytes xid call
-  pub replied : reply ≡ fragment (reply_message xid (results_of call))
+  pub replied : reply ≡ fragment (reply_message xid (results_of tree call))
 
 -- the record is no call that is answered
-abbrev pub IsUnanswerable : List ℕ → Type 0
-IsUnanswerable bytes = (reply : List ℕ) → IsAnswered bytes reply → ⊥
+abbrev pub IsUnanswerable : Tree → List ℕ → Type 0
+IsUnanswerable tree bytes = (reply : List ℕ) → IsAnswered tree bytes reply → ⊥
 
 -- the answers to the next bytes of a session. For now they are one whole record, which is a call
 abbrev pub StepBytes : Option Session → State → ℕ → List ℕ → List OutFrame → State → Type 0
 StepBytes (Some Open) old session payload outs new =
-    (reply : List ℕ) × IsAnswered payload reply × (outs ≡ Reply session reply ∷ []) × (new ≡ old)
+    (reply : List ℕ) × IsAnswered old.tree payload reply × (outs ≡ Reply session reply ∷ []) × (new ≡ old)
 -- a session that hasn't begun is passed over
 StepBytes (Some Absent) old session payload outs new = (outs ≡ []) × (new ≡ old)
 StepBytes None old session payload outs new = (outs ≡ []) × (new ≡ old)

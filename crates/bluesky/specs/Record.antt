@@ -1,6 +1,9 @@
--- Records of RPC messages (RFC 5531), as far as they are answered: NULL calls of NFS version 3 in one fragment.
-use Rattle.std.specs.Prelude.{◌≡◌, ℕ, ◌+◌, ◌<◌, ◌^◌, List, [], ◌++◌, length}
-use Rattle.sky_xdr.specs.Spelling.{uint, opaque}
+-- Records of RPC messages (RFC 5531), as far as they are answered: calls of NFS version 3 (RFC 1813) in one fragment.
+use Rattle.std.specs.Prelude.{◌≡◌, ℕ, ◌+◌, ◌<◌, ◌≤◌, ◌^◌, List, [], ◌++◌, length}
+use Rattle.sky_xdr.specs.Spelling.{uint, opaque, IsOpaque}
+use Rattle.sky_nfs.specs.Procedure.{getattr}
+use Rattle.sky_nfs.specs.Tree.{Tree}
+use Rattle.bluesky.specs.Results.{getattr_bytes}
 
 -- a record of one fragment: the highest bit of its mark says that it is the last (section 11)
 abbrev pub fragment : List ℕ → List ℕ
@@ -42,14 +45,22 @@ nfs_version = 3
 pub data Call : Type 0 where
   -- NULL does nothing (RFC 1813, section 3.3.0)
   Null : Call
+  -- GETATTR: the attributes of the object that a handle names (RFC 1813, section 3.3.1)
+  GetAttr : (object : List ℕ) → Call
 
 -- its procedure's number
 abbrev pub procedure_of : Call → ℕ
 procedure_of Null = 0
+procedure_of (GetAttr object) = 1
+
+-- the most bytes that a handle has (NFS3_FHSIZE; RFC 1813, section 2.4)
+abbrev pub handle_most : ℕ
+handle_most = 64
 
 -- its arguments, as they are accepted
 abbrev pub IsArgs : List ℕ → Call → Type 0
 IsArgs args Null = args ≡ []
+IsArgs args (GetAttr object) = IsOpaque args object × (length object ≤ handle_most)
 
 -- A call message is this call of NFS under this number.
 pub record IsNfsCall (message : CallMessage) (xid : ℕ) (call : Call) : Type 0 where
@@ -66,6 +77,7 @@ pub record IsCall (bytes : List ℕ) (xid : ℕ) (call : Call) : Type 0 where
   pub fits : xid < 2 ^ 32
   pub calls : IsNfsCall message xid call
 
--- what a call is answered with
-abbrev pub results_of : Call → List ℕ
-results_of Null = []
+-- what a call is answered with, in a tree
+abbrev pub results_of : Tree → Call → List ℕ
+results_of tree Null = []
+results_of tree (GetAttr object) = getattr_bytes (getattr tree object)

@@ -2,8 +2,8 @@
 use Rattle.std.specs.Prelude.{ℕ, ◌+◌, ◌^◌, ◌==◌, ◌&&◌, List, length, Option, Some, None, option_and_then, if◌then◌else◌}
 use Rattle.std.specs.Option.{option_map}
 use Rattle.std.specs.Result.{result_ok}
-use Rattle.sky_xdr.specs.Reading.{uint_at}
-use Rattle.bluesky.specs.Record.{Call, Null, CallMessage, nfs_program, nfs_version}
+use Rattle.sky_xdr.specs.Reading.{uint_at, opaque_at}
+use Rattle.bluesky.specs.Record.{Call, Null, GetAttr, CallMessage, nfs_program, nfs_version, handle_most}
 
 infixl 10 ◌>>=◌
 abbrev pub ◌>>=◌ : {A B : Type 0} → Option A → (A → Option B) → Option B
@@ -38,9 +38,17 @@ call_at bytes = do
   args ← after_no_auth verifier
   Some (record { xid = xid.0; program = program.0; version = version.0; procedure = procedure.0; args = args })
 
+-- one handle, and nothing behind it
+unfoldable pub handle_at : List ℕ → Option (List ℕ)
+handle_at args = do
+  object ← result_ok (opaque_at handle_most args)
+  if length object.1 == 0 then Some object.0 else None
+
 -- the arguments of a procedure
 unfoldable pub args_at : ℕ → List ℕ → Option Call
-args_at procedure args = if procedure == 0 then (if length args == 0 then Some Null else None) else None
+args_at procedure args =
+    if procedure == 0 then (if length args == 0 then Some Null else None)
+    else (if procedure == 1 then option_map GetAttr (handle_at args) else None)
 
 -- a message in one fragment, which is all of the record
 unfoldable pub fragment_at : List ℕ → Option (List ℕ)

@@ -10,4 +10,4 @@ session_of Absent = meaning.Absent
 session_of Open = meaning.Open
 
 abbrev pub state_of : Inside → meaning.State
-state_of w = record { epoch = w.epoch; sessions = map session_of w.sessions }
+state_of w = record { epoch = w.epoch; tree = w.tree; sessions = map session_of w.sessions }

@@ -5,11 +5,13 @@
 mod nfs;
 mod outcome;
 mod record;
+mod results;
 mod rpc;
 mod run;
 mod script;
 mod stdio;
 mod sure;
+mod tree;
 mod words;
 mod world;
 
@@ -22,7 +24,7 @@ use std::process::ExitCode;
 use std::rt::Env;
 use std::{env, fmt, io};
 pub use stdio::{StdinSource, StdoutSink};
-pub use sure::{has_one_reading, run_surely};
+pub use sure::{each_recording_has_one_reading, run_surely};
 
 #[cfg(test)]
 mod tests;

@@ -26,11 +26,9 @@ pub fn run_surely(
     run(alloc, words, settings, source, sink, site)
 }
 
-/// Says nothing and does nothing: its contract is the law that no recording can be read in two ways, so
-/// that the frames, the answers and the status of a run are determined by the bytes alone.
+/// Each recording is read in one way, so that the frames, the answers and the status of a run are
+/// determined by the bytes alone.
 #[tactic(auto, using(crate::proofs::ExactLaws::one_end))]
-pub fn has_one_reading(bytes: &[u8])
-    ensures { HasOneReading bytes.now }
-{
-    let _ = bytes;
-}
+pub fn each_recording_has_one_reading()
+    ensures { (bytes : List ℕ) → HasOneReading bytes }
+{}

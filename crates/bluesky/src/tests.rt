@@ -151,6 +151,106 @@ fn other_calls_are_malformed(rt: HostRuntime) -> Result<(), Fail> {
     Ok(())
 }
 
+/// A recording of one GETATTR call of the root in session 0, and what is answered.
+const GETATTR_CALL: [u8; 99] = [
+    b'S', b'K', b'Y', b'R', b'E', b'C', b'1', b'\n', // the magic
+    1, 0, 0, 0, 0, 0, 0, 0, 0, // session 0 begins
+    2, 0, 0, 0, 0, 0, 0, 0, 64, // its next 64 bytes
+    0x80, 0, 0, 60, 0, 0, 0, 2, 0, 0, 0, 0, 0, 0, 0, 2, 0, 1, 0x86, 0xa3, 0, 0, 0, 3, 0, 0, 0, 1,
+    0, 0, 0, 0, 0, 0, 0, 0, 0, 0, 0, 0, 0, 0, 0, 0, //
+    0, 0, 0, 16, 0, 0, 0, 0, 0, 0, 0, 1, 0, 0, 0, 0, 0, 0, 0, 1, // the handle
+    99, 0, 0, 0, 0, 0, 0, 0, 0, // the end
+];
+
+const GETATTR_ANSWER: [u8; 183] = [
+    b'S', b'K', b'Y', b'R', b'E', b'C', b'1', b'\n', // the magic
+    19, 0, 0, 0, 0, 0, 0, 0, 20, 0, 0, 0, 0, 0, 0, 0, 1, 0, 0, 0, 0, 0, 0, 0, 0, 0, 0, 0, 0, //
+    2, 0, 0, 0, 0, 0, 0, 0, 116, // 116 bytes to session 0
+    0x80, 0, 0, 0x70, 0, 0, 0, 2, 0, 0, 0, 1, 0, 0, 0, 0, 0, 0, 0, 0, 0, 0, 0, 0, 0, 0, 0, 0, //
+    0, 0, 0, 0, 0, 0, 0, 2, 0, 0, 1, 0xff, 0, 0, 0, 2, 0, 0, 0, 0, 0, 0, 0, 0, // OK, to gid
+    0, 0, 0, 0, 0, 0, 0, 0, 0, 0, 0, 0, 0, 0, 0, 0, 0, 0, 0, 0, 0, 0, 0, 0, // size, used, rdev
+    0, 0, 0, 0, 0, 0, 0, 1, 0, 0, 0, 0, 0, 0, 0, 1, // fsid, fileid
+    0, 0, 0, 0, 0, 0, 0, 0, 0, 0, 0, 0, 0, 0, 0, 0, 0, 0, 0, 0, 0, 0, 0, 0, // times
+    99, 0, 0, 0, 0, 0, 0, 0, 12, 0, 0, 0, 0, 0, 0, 0, 0, 0, 0, 0, 0, // the end
+];
+
+#[test]
+fn the_root_has_attributes(rt: HostRuntime) -> Result<(), Fail> {
+    let alloc = rt.alloc();
+    let mut source = source_of(alloc, &GETATTR_CALL, &[])?;
+    let (status, sink) = replay(alloc, &mut source, &[])?;
+    assert_eq!(rt; status, Status::Done);
+    assert_eq!(rt; sink.bytes(), GETATTR_ANSWER.as_slice());
+    Ok(())
+}
+
+/// A recording of one GETATTR call with these arguments, at most 80 bytes.
+fn getattr_of(alloc: Global, args: &[u8]) -> Result<Vec<u8>, Fail> {
+    let count = args.len().min(80) as u8;
+    let mut bytes = Vec::from_slice(alloc, &GETATTR_CALL[..70])?;
+    bytes.extend_from_slice(args)?;
+    bytes.extend_from_slice(&GETATTR_CALL[90..])?;
+    for (at, length) in [(25, 44 + count), (29, 40 + count)] {
+        if let Some(byte) = bytes.get_mut(at) {
+            *byte = length;
+        }
+    }
+    Ok(bytes)
+}
+
+/// That GETATTR with these arguments is refused by this status.
+fn is_refused(rt: &impl Abort, alloc: Global, args: &[u8], status: [u8; 4]) -> Result<(), Fail> {
+    let bytes = getattr_of(alloc, args)?;
+    let mut source = source_of(alloc, &bytes, &[])?;
+    let (ended, sink) = replay(alloc, &mut source, &[])?;
+    assert_eq!(rt; ended, Status::Done, "of {args:?}");
+    let mut want = Vec::from_slice(alloc, &GETATTR_ANSWER[..37])?;
+    want.extend_from_slice(&[2, 0, 0, 0, 0, 0, 0, 0, 32, 0x80, 0, 0, 0x1c])?;
+    want.extend_from_slice(&GETATTR_ANSWER[50..74])?;
+    want.extend_from_slice(&status)?;
+    want.extend_from_slice(&GETATTR_ANSWER[162..])?;
+    assert_eq!(rt; sink.bytes(), want.as_slice(), "of {args:?}");
+    Ok(())
+}
+
+#[test]
+fn handles_that_name_nothing_are_refused(rt: HostRuntime) -> Result<(), Fail> {
+    let alloc = rt.alloc();
+    let bad = [0, 0, 0x27, 0x11];
+    let stale = [0, 0, 0, 0x46];
+    let root = &GETATTR_CALL[70..90];
+    // Of 15 bytes, whatever the padding holds; of none; of another volume.
+    let mut short = Vec::from_slice(alloc, root)?;
+    if let Some(byte) = short.get_mut(3) {
+        *byte = 15;
+    }
+    is_refused(&rt, alloc, &short, bad)?;
+    is_refused(&rt, alloc, &[0, 0, 0, 0], bad)?;
+    let mut other = Vec::from_slice(alloc, root)?;
+    if let Some(byte) = other.get_mut(11) {
+        *byte = 2;
+    }
+    is_refused(&rt, alloc, &other, bad)?;
+    // No such node.
+    let mut gone = Vec::from_slice(alloc, root)?;
+    if let Some(byte) = gone.get_mut(19) {
+        *byte = 9;
+    }
+    is_refused(&rt, alloc, &gone, stale)?;
+    // The longest handle; one byte more is no handle, nor is one with a word behind it.
+    let mut long = Vec::from_slice(alloc, &[0, 0, 0, 64])?;
+    long.extend_from_slice(&[1; 64])?;
+    is_refused(&rt, alloc, &long, bad)?;
+    let mut longer = Vec::from_slice(alloc, &[0, 0, 0, 65])?;
+    longer.extend_from_slice(&[1; 68])?;
+    let malformed = Status::Malformed { at: 17 };
+    ends(&rt, alloc, &getattr_of(alloc, &longer)?, malformed, 58)?;
+    let mut behind = Vec::from_slice(alloc, root)?;
+    behind.extend_from_slice(&[0; 4])?;
+    ends(&rt, alloc, &getattr_of(alloc, &behind)?, malformed, 58)?;
+    ends(&rt, alloc, &getattr_of(alloc, &root[..16])?, malformed, 58)
+}
+
 /// That a run whose source or sink fails at its nth call ends so, and wrote a front of the good run's
 /// bytes, with this many bytes behind it.
 fn fails(
@@ -161,15 +261,15 @@ fn fails(
     status: Status,
     behind: usize,
 ) -> Result<(), Fail> {
-    let mut source = source_of(alloc, &NULL_CALL, reads)?;
+    let mut source = source_of(alloc, &GETATTR_CALL, reads)?;
     let (ended, sink) = replay(alloc, &mut source, writes)?;
     assert_eq!(rt; ended, status, "at {reads:?} {writes:?}");
     let front = sink.bytes().len().saturating_sub(behind);
     assert!(rt;
-        NULL_ANSWER.starts_with(&sink.bytes()[..front]),
+        GETATTR_ANSWER.starts_with(&sink.bytes()[..front]),
         "at {reads:?} {writes:?}"
     );
-    assert!(rt; front < NULL_ANSWER.len(), "at {reads:?} {writes:?}");
+    assert!(rt; front < GETATTR_ANSWER.len(), "at {reads:?} {writes:?}");
     Ok(())
 }
 
@@ -206,11 +306,11 @@ impl Source for Trickle {
 fn bytes_come_one_at_a_time(rt: HostRuntime) -> Result<(), Fail> {
     let alloc = rt.alloc();
     let mut source = Trickle {
-        source: source_of(alloc, &NULL_CALL, &[])?,
+        source: source_of(alloc, &GETATTR_CALL, &[])?,
     };
     let (status, sink) = replay(alloc, &mut source, &[])?;
     assert_eq!(rt; status, Status::Done);
-    assert_eq!(rt; sink.bytes(), NULL_ANSWER.as_slice());
+    assert_eq!(rt; sink.bytes(), GETATTR_ANSWER.as_slice());
     Ok(())
 }
 

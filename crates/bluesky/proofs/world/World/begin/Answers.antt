@@ -7,5 +7,5 @@ use Rattle.bluesky.proofs.world.World.begin.Goals as goal
 
 pub returns : goal.returns
 returns c =
-    let with_sessions = λ (ss : List Session). let s : State = record { epoch = c.self.inside.epoch; sessions = ss } in s in
+    let with_sessions = λ (ss : List Session). let s : State = record { epoch = c.self.inside.epoch; tree = c.self.inside.tree; sessions = ss } in s in
     rw (← c.self.view_is) (ap with_sessions (map-set session_of c.self.inside.sessions c.args.session Open))

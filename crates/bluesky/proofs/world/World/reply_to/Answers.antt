@@ -1,6 +1,6 @@
 use Rattle.std.proofs.Common.{◌∙◌}
 use Rattle.bluesky.proofs.CallLaws.{record_again}
-use Rattle.bluesky.proofs.world.reply_to.Goals as goal
+use Rattle.bluesky.proofs.world.World.reply_to.Goals as goal
 
 pub returns-in_err-xid-clause-none : goal.returns-in_err-xid-clause-none
 returns-in_err-xid-clause-none c =
