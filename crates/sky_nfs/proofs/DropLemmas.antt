@@ -28,7 +28,7 @@ all-without p (x ∷ xs) name h = go (bytes_eq x.name name) (and_parts _ _ h) (a
     go false parts ih = and_from _ _ parts.0 (ih parts.1)
 
 -- a test of a part of each entry is one of the list of these parts
-all_map : {A : Type 0} (p : A → Bool) (f : Entry → A) (xs : List Entry) → list_all p (map f xs) ≡ list_all (λ x. p (f x)) xs
+pub all_map : {A : Type 0} (p : A → Bool) (f : Entry → A) (xs : List Entry) → list_all p (map f xs) ≡ list_all (λ x. p (f x)) xs
 all_map p f [] = refl
 all_map p f (x ∷ xs) = ap (λ (b : Bool). p (f x) && b) (all_map p f xs)
 
@@ -72,7 +72,7 @@ distinct-without (x ∷ xs) name h = go (bytes_eq x.name name) (distinct-without
     go false ih = and_from _ _ new ih
 
 -- one entry fewer of the fileid that was found
-cnt-without : (q : ℕ → Bool) (xs : List Entry) (name : List ℕ) (f : ℕ) → found_id xs name ≡ Some f → cnt (λ e. q e.fileid) (without_name xs name) + cond (q f) 1 0 ≡ cnt (λ e. q e.fileid) xs
+pub cnt-without : (q : ℕ → Bool) (xs : List Entry) (name : List ℕ) (f : ℕ) → found_id xs name ≡ Some f → cnt (λ e. q e.fileid) (without_name xs name) + cond (q f) 1 0 ≡ cnt (λ e. q e.fileid) xs
 cnt-without q [] name f h = absurd (cc)
 cnt-without q (x ∷ xs) name f h = go (bytes_eq x.name name) refl (λ rest. cnt-without q xs name f rest)
   where
@@ -94,7 +94,7 @@ cnt-without q (x ∷ xs) name f h = go (bytes_eq x.name name) refl (λ rest. cnt
         rw e (more (q x.fileid) (cond (q f) 1 0) (ih rest))
 
 -- another fileid's entry stays
-any-without : (xs : List Entry) (name : List ℕ) (f k : ℕ) → found_id xs name ≡ Some f → (f == k) ≡ false → list_any (λ e. e.fileid == k) xs ≡ true → list_any (λ e. e.fileid == k) (without_name xs name) ≡ true
+pub any-without : (xs : List Entry) (name : List ℕ) (f k : ℕ) → found_id xs name ≡ Some f → (f == k) ≡ false → list_any (λ e. e.fileid == k) xs ≡ true → list_any (λ e. e.fileid == k) (without_name xs name) ≡ true
 any-without [] name f k h a e = absurd (cc)
 any-without (x ∷ xs) name f k h a e = go (bytes_eq x.name name) refl (or_cases (x.fileid == k) _ e) (λ rest left. any-without xs name f k rest a left)
   where

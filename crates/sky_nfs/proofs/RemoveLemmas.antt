@@ -23,7 +23,7 @@ use Rattle.sky_nfs.proofs.CreateLemmas.{found_in, folder-with_listing, parent-wi
 use Rattle.sky_nfs.proofs.DropLemmas.{found_id, Dropping, Fate, gone, less, dropped_valid, all-without, sum-without}
 
 -- what stands where after a node is gone
-node_at-without_node : (ns : List (ℕ × Node)) (f j : ℕ) → node_at (without_node ns f) j ≡ cond (f == j) None (node_at ns j)
+pub node_at-without_node : (ns : List (ℕ × Node)) (f j : ℕ) → node_at (without_node ns f) j ≡ cond (f == j) None (node_at ns j)
 node_at-without_node [] f j = go (f == j)
   where
     go : (b : Bool) → None ≡ cond {A = Option Node} b None None
@@ -109,7 +109,7 @@ total-without_node p bound (e ∷ es) f a order at none = go (e.0 == f) refl (λ
         let found : node_at es f ≡ Some a = rw h at at in
         rw h (ap (λ (m : ℕ). cnt p (entries e.1) + m) (ih found))
 
-within-without : (c : Content) (name : List ℕ) → is_within c ≡ true → is_within (with_listing (λ l. without_entry l name) c) ≡ true
+pub within-without : (c : Content) (name : List ℕ) → is_within c ≡ true → is_within (with_listing (λ l. without_entry l name) c) ≡ true
 within-without (File bytes) name w = w
 within-without (Link text) name w = w
 within-without (Folder parent l) name w =
@@ -134,7 +134,7 @@ absorb true x y w z c = refl
 absorb false x y w z c = refl
 
 -- only a directory has entries
-plain_empty : (a : Node) → is_folder a ≡ false → entries a ≡ []
+pub plain_empty : (a : Node) → is_folder a ≡ false → entries a ≡ []
 plain_empty a h = go a.content h
   where
     go : (c : Content) → folder_test c ≡ false → (folder_listing c).entries ≡ []
@@ -142,12 +142,12 @@ plain_empty a h = go a.content h
     go (Folder parent l) e = absurd (cc)
     go (Link text) e = refl
 
-no_length : (xs : List Entry) → length xs ≡ 0 → xs ≡ []
+pub no_length : (xs : List Entry) → length xs ≡ 0 → xs ≡ []
 no_length [] h = refl
 no_length (x ∷ xs) h = absurd (omega arith)
 
 -- a directory and what is none stand at different fileids
-kinds_apart : (t : Tree) (dir f : ℕ) (d a : Node) → node_at t.nodes dir ≡ Some d → node_at t.nodes f ≡ Some a → is_folder d ≡ true → is_folder a ≡ false → (dir == f) ≡ false
+pub kinds_apart : (t : Tree) (dir f : ℕ) (d a : Node) → node_at t.nodes dir ≡ Some d → node_at t.nodes f ≡ Some a → is_folder d ≡ true → is_folder a ≡ false → (dir == f) ≡ false
 kinds_apart t dir f d a at there folder plain = ne_eqb dir f (λ e. clash (subst (λ (k : ℕ). node_at t.nodes k ≡ Some d) e at))
   where
     clash : node_at t.nodes f ≡ Some d → ⊥
@@ -157,7 +157,7 @@ kinds_apart t dir f d a at there folder plain = ne_eqb dir f (λ e. clash (subst
         false≢true (sym plain ∙ subst (λ (n : Node). is_folder n ≡ true) same folder)
 
 -- so do a directory that has an entry and one that has none
-entries_apart : (t : Tree) (dir f : ℕ) (name : List ℕ) (d a : Node) → node_at t.nodes dir ≡ Some d → node_at t.nodes f ≡ Some a → named t dir name ≡ Some f → entries a ≡ [] → (dir == f) ≡ false
+pub entries_apart : (t : Tree) (dir f : ℕ) (name : List ℕ) (d a : Node) → node_at t.nodes dir ≡ Some d → node_at t.nodes f ≡ Some a → named t dir name ≡ Some f → entries a ≡ [] → (dir == f) ≡ false
 entries_apart t dir f name d a at there found none = ne_eqb dir f (λ e. clash (subst (λ (k : ℕ). named t k name ≡ Some f) e found))
   where
     clash : named t f name ≡ Some f → ⊥
@@ -294,7 +294,7 @@ module _ (t : Tree) (now : Moment) (dir f : ℕ) (name : List ℕ) (d a : Node) 
       let edited : IsValidTree (release (edit t dir (λ d. leave now name d)) now dir f) = subst (λ (n : Node). IsValidTree (release (put t dir (leave now name n)) now dir f)) (sym at_is) released in
       rw found edited
 
-some_named : (o : Option ℕ) → is_none o ≡ false → (f : ℕ) × (o ≡ Some f)
+pub some_named : (o : Option ℕ) → is_none o ≡ false → (f : ℕ) × (o ≡ Some f)
 some_named None e = absurd (cc)
 some_named (Some f) e = (f, refl)
 

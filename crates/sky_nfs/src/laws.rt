@@ -1,17 +1,13 @@
-ghost use Rattle.std.specs.Prelude.{◌≡◌, ℕ, ◌<◌, ◌^◌, List, Option, Some, false};
+ghost use Rattle.std.specs.Prelude.{◌≡◌, ℕ, ◌<◌, ◌^◌, Some, false};
 ghost use Rattle.sky_base.specs.declared.cred.Cred.{Cred};
 ghost use Rattle.sky_base.specs.declared.moment.Moment.{Moment};
 ghost use Rattle.sky_nfs.specs.Calls.{is_change};
 ghost use Rattle.sky_nfs.specs.Handles.{handle_bytes, volume_in, fileid_in};
-ghost use Rattle.sky_nfs.specs.Laws.{KeepsValid};
+ghost use Rattle.sky_nfs.specs.Laws.{EachCallKeepsValid};
 ghost use Rattle.sky_nfs.specs.Procedure.{procedure, refusal_of};
 ghost use Rattle.sky_nfs.specs.Tree.{Tree, Node, node_at, attributes_of, links_of};
 ghost use Rattle.sky_nfs.specs.Validity.{IsValidTree};
 ghost use Rattle.sky_nfs.specs.declared.call.Call.{Call};
-ghost use Rattle.sky_nfs.specs.declared.call.At.{At};
-ghost use Rattle.sky_nfs.specs.declared.call.How.{How};
-ghost use Rattle.sky_nfs.specs.declared.call.SetAttr.{SetAttr};
-ghost use Rattle.sky_nfs.specs.declared.call.Stable.{Stable};
 ghost use Rattle.sky_nfs.specs.declared.status.NfsStatus.{NfsStatus};
 
 /// A call that is refused leaves the tree, and so does a call of a procedure that only reads.
@@ -35,18 +31,9 @@ pub fn links_are_counted()
         → (attributes_of t.volume fileid node).nlink ≡ links_of t fileid node }
 {}
 
-/// A valid tree stays valid under each procedure but RENAME, of which it isn't proved yet.
+/// A valid tree stays valid under every call, whoever calls, and whenever.
 pub fn valid_trees_stay_valid()
-    ensures setattr { (object : List ℕ) (set : SetAttr) (guard : Option Moment) → KeepsValid (Call.SetAttr object set guard) }
-    ensures write { (file : List ℕ) (offset count : ℕ) (how : Stable) (bytes : List ℕ)
-        → KeepsValid (Call.Write file offset count how bytes) }
-    ensures create { (at : At) (how : How) → KeepsValid (Call.Create at how) }
-    ensures mkdir { (at : At) (set : SetAttr) → KeepsValid (Call.Mkdir at set) }
-    ensures symlink { (at : At) (set : SetAttr) (text : List ℕ) → KeepsValid (Call.Symlink at set text) }
-    ensures remove { (at : At) → KeepsValid (Call.Remove at) }
-    ensures rmdir { (at : At) → KeepsValid (Call.Rmdir at) }
-    ensures link { (file : List ℕ) (at : At) → KeepsValid (Call.Link file at) }
-    ensures reading { (call : Call) → is_change call ≡ false → KeepsValid call }
+    ensures { EachCallKeepsValid }
 {}
 
 /// A handle gives back the volume and the fileid that it was made of, so that no two nodes have one handle.

@@ -1,32 +1,36 @@
+use Rattle.std.proofs.Common.{refl}
+use Rattle.sky_nfs.specs.Laws.{EachCallKeepsValid}
+use Rattle.sky_nfs.specs.declared.call.Call.TheVariants.{Null, GetAttr, SetAttr, Lookup, Access, ReadLink, Read, Write, Create, Mkdir, Symlink, Mknod, Remove, Rmdir, Rename, Link, ReadDir, ReadDirPlus, FsStat, FsInfo, PathConf, Commit}
 use Rattle.sky_nfs.proofs.CreateLemmas.{create_kept, mkdir_kept, symlink_kept}
 use Rattle.sky_nfs.proofs.KeptLemmas.{setattr_kept, write_kept, reading_kept}
 use Rattle.sky_nfs.proofs.LinkLemmas.{link_kept}
 use Rattle.sky_nfs.proofs.RemoveLemmas.{remove_kept, rmdir_kept}
+use Rattle.sky_nfs.proofs.RenameLemmas.{rename_kept}
 use Rattle.sky_nfs.proofs.laws.valid_trees_stay_valid.Goals as goal
 
-pub returns-clause-setattr : goal.returns-clause-setattr
-returns-clause-setattr c = setattr_kept
+each_kept : EachCallKeepsValid
+each_kept Null = reading_kept Null refl
+each_kept (GetAttr object) = reading_kept (GetAttr object) refl
+each_kept (SetAttr object set guard) = setattr_kept object set guard
+each_kept (Lookup at) = reading_kept (Lookup at) refl
+each_kept (Access object rights) = reading_kept (Access object rights) refl
+each_kept (ReadLink link) = reading_kept (ReadLink link) refl
+each_kept (Read file offset count) = reading_kept (Read file offset count) refl
+each_kept (Write file offset count how piece) = write_kept file offset count how piece
+each_kept (Create at how) = create_kept at how
+each_kept (Mkdir at set) = mkdir_kept at set
+each_kept (Symlink at set text) = symlink_kept at set text
+each_kept (Mknod at what) = reading_kept (Mknod at what) refl
+each_kept (Remove at) = remove_kept at
+each_kept (Rmdir at) = rmdir_kept at
+each_kept (Rename from to) = rename_kept from to
+each_kept (Link file at) = link_kept file at
+each_kept (ReadDir directory cookie verifier count) = reading_kept (ReadDir directory cookie verifier count) refl
+each_kept (ReadDirPlus directory cookie verifier dircount maxcount) = reading_kept (ReadDirPlus directory cookie verifier dircount maxcount) refl
+each_kept (FsStat root) = reading_kept (FsStat root) refl
+each_kept (FsInfo root) = reading_kept (FsInfo root) refl
+each_kept (PathConf object) = reading_kept (PathConf object) refl
+each_kept (Commit file offset count) = reading_kept (Commit file offset count) refl
 
-pub returns-clause-write : goal.returns-clause-write
-returns-clause-write c = write_kept
-
-pub returns-clause-create : goal.returns-clause-create
-returns-clause-create c = create_kept
-
-pub returns-clause-mkdir : goal.returns-clause-mkdir
-returns-clause-mkdir c = mkdir_kept
-
-pub returns-clause-symlink : goal.returns-clause-symlink
-returns-clause-symlink c = symlink_kept
-
-pub returns-clause-remove : goal.returns-clause-remove
-returns-clause-remove c = remove_kept
-
-pub returns-clause-rmdir : goal.returns-clause-rmdir
-returns-clause-rmdir c = rmdir_kept
-
-pub returns-clause-link : goal.returns-clause-link
-returns-clause-link c = link_kept
-
-pub returns-clause-reading : goal.returns-clause-reading
-returns-clause-reading c = reading_kept
+pub returns : goal.returns
+returns c = each_kept
