@@ -1,6 +1,8 @@
 //! Standard input and output as a source and a sink.
 
-ghost use Rattle.std.specs.Prelude.{◌≤◌, None, length, IfOk};
+ghost use Rattle.std.specs.Prelude.{◌≤◌, ◌<◌, None, length, take, IfOk, IsErr};
+ghost use Rattle.sky_outside.specs.Count.{Counts};
+ghost use Rattle.std.specs.Io.KnownBytes.{ReadConsumes, Appends};
 
 use sky_outside::{Failed, Sink, Source};
 use std::io;
@@ -25,7 +27,12 @@ impl<R: Read> Source for StdinSource<R> {
 
     ghost faults = { λ s. s.faults };
 
-    fn read(&mut self, buf: &mut [u8]) -> Result<usize, Failed> {
+    fn read(&mut self, buf: &mut [u8]) -> Result<usize, Failed>
+        ensures within { IfOk result (λ n. n ≤ length buf.old) }
+        ensures cause { Counts self.old.faults self.new.faults (IsErr result) }
+        // As the reader reads: what it gave is what is handed on, and no byte only at its end.
+        ensures reads { ReadConsumes (R.remaining self.old.reader) (R.remaining self.new.reader) result buf.new }
+    {
         match self.reader.read(buf) {
             Ok(count) => Ok(count),
             Err(_) => {
@@ -53,7 +60,8 @@ impl<W: Write> StdoutSink<W> {
 
 /// Writes some of a piece, and sees that none of it stays in a buffer.
 fn write_through<W: Write>(writer: &mut W, bytes: &[u8]) -> io::Result<usize>
-    ensures { IfOk result (λ count. count ≤ length bytes.now) }
+    ensures within { IfOk result (λ count. count ≤ length bytes.now) }
+    ensures appends { IfOk result (λ count. Appends (W.contents writer.old) (W.contents writer.new) (take count bytes.now)) }
 {
     let count = writer.write(bytes)?;
     writer.flush()?;
@@ -65,7 +73,13 @@ impl<W: Write> Sink for StdoutSink<W> {
 
     ghost faults = { λ s. s.faults };
 
-    fn write(&mut self, bytes: &[u8]) -> Result<usize, Failed> {
+    fn write(&mut self, bytes: &[u8]) -> Result<usize, Failed>
+        ensures within { IfOk result (λ n. n ≤ length bytes.now) }
+        ensures some { 0 < length bytes.now → IfOk result (λ n. 0 < n) }
+        ensures cause { Counts self.old.faults self.new.faults (IsErr result) }
+        // As the writer writes: what it took is what was handed to it.
+        ensures appends { IfOk result (λ count. Appends (W.contents self.old.writer) (W.contents self.new.writer) (take count bytes.now)) }
+    {
         match write_through(&mut self.writer, bytes) {
             Ok(count) if count > 0 || bytes.is_empty() => Ok(count),
             _ => {
