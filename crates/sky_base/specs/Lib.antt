@@ -1,4 +1,5 @@
 pub mod Access
 pub mod Limits
 pub mod Listing
+pub mod Order
 pub mod Status

@@ -1,42 +1,78 @@
--- The limits of the file system. No other definition has a number of its own.
+-- The limits of the file system, of the wire and of the log. No other definition has a number of its own.
 use Rattle.std.specs.Prelude.{ℕ, ◌^◌}
 
 -- the most bytes that one READ or WRITE moves, and that a page of a listing has
-abbrev pub transfer_most : ℕ
-transfer_most = 65536
+abbrev pub max_transfer : ℕ
+max_transfer = 65536
 
 -- the most bytes of a file
-abbrev pub file_most : ℕ
-file_most = 2 ^ 30
+abbrev pub max_file_bytes : ℕ
+max_file_bytes = 2 ^ 30
 
 -- the largest size of a directory
-abbrev pub directory_most : ℕ
-directory_most = 2 ^ 20
+abbrev pub max_directory_bytes : ℕ
+max_directory_bytes = 2 ^ 20
 
 -- the next cookie of a directory that takes no further entry
-abbrev pub cookie_most : ℕ
-cookie_most = 2 ^ 62
+abbrev pub max_cookie : ℕ
+max_cookie = 2 ^ 62
 
 -- the most bytes of a name
-abbrev pub name_most : ℕ
-name_most = 255
+abbrev pub max_name_bytes : ℕ
+max_name_bytes = 255
 
 -- the most bytes of a symbolic link's text
-abbrev pub text_most : ℕ
-text_most = 1024
+abbrev pub max_link_text_bytes : ℕ
+max_link_text_bytes = 1024
 
 -- the most nodes of a volume
-abbrev pub nodes_most : ℕ
-nodes_most = 2 ^ 20
+abbrev pub max_nodes : ℕ
+max_nodes = 2 ^ 20
 
 -- the next fileid of a volume in which no further node is made
-abbrev pub fileid_most : ℕ
-fileid_most = 2 ^ 26
+abbrev pub max_fileid : ℕ
+max_fileid = 2 ^ 26
 
 -- the most links of a file
-abbrev pub links_most : ℕ
-links_most = 32000
+abbrev pub max_links : ℕ
+max_links = 32000
 
 -- the largest number of a volume
-abbrev pub volume_most : ℕ
-volume_most = 2 ^ 62
+abbrev pub max_volume : ℕ
+max_volume = 2 ^ 62
+
+-- the most bytes of a record (record marking, RFC 5531 section 11)
+abbrev pub max_record_bytes : ℕ
+max_record_bytes = 131072
+
+-- the most bytes of a credential's or a verifier's body (opaque_auth, RFC 5531 section 8.2)
+abbrev pub max_auth_bytes : ℕ
+max_auth_bytes = 400
+
+-- the most bytes of a machine's name (authsys_parms, RFC 5531 appendix A)
+abbrev pub max_machine_name_bytes : ℕ
+max_machine_name_bytes = 255
+
+-- the most further groups of a credential (authsys_parms, RFC 5531 appendix A)
+abbrev pub max_gids : ℕ
+max_gids = 16
+
+-- the most bytes of a file handle (NFS3_FHSIZE, RFC 1813 section 2.4)
+abbrev pub max_handle_bytes : ℕ
+max_handle_bytes = 64
+
+-- the most bytes of a path to mount (MNTPATHLEN, RFC 1813 section 5.1.4)
+abbrev pub max_mount_path_bytes : ℕ
+max_mount_path_bytes = 1024
+
+-- the most bytes that a frame of a recorded session carries
+abbrev pub max_payload_bytes : ℕ
+max_payload_bytes = 2 ^ 20
+
+-- how many sessions a recording may have, which are numbered from 0
+abbrev pub max_sessions : ℕ
+max_sessions = 256
+
+-- what the number of an epoch or of a cleaner's run is below, and the number of an object within it
+abbrev pub max_number : ℕ
+max_number = 2 ^ 62

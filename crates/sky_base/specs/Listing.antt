@@ -26,7 +26,7 @@ abbrev pub without_name : List Entry → List ℕ → List Entry
 without_name [] name = []
 without_name (e ∷ es) name = cond (bytes_eq e.name name) es (e ∷ without_name es name)
 
--- with an entry more, which goes last and takes the next cookie
+-- with one more entry, at the end, under the next cookie
 abbrev pub with_entry : Listing → List ℕ → ℕ → Listing
 with_entry l name fileid = record {
   entries = l.entries ++ record { cookie = l.next_cookie; name = name; fileid = fileid } ∷ [];

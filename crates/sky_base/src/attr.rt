@@ -1,3 +1,5 @@
+//! The attributes of objects.
+
 use super::Moment;
 
 /// What kind of object a node is (`ftype3`, RFC 1813 section 2.6, as far as this server has them).
@@ -23,15 +25,12 @@ pub struct Device {
 /// The attributes of an object (`fattr3`, RFC 1813 section 2.6).
 #[derive(Clone, Copy, Debug, PartialEq, Eq)]
 pub struct Attr {
-    /// What it is.
     pub kind: Kind,
     /// The access bits, below 0o10000.
     pub mode: u32,
     /// The number of hard links: of names that stand for it, and of a directory 2 and one for each directory in it.
     pub nlink: u32,
-    /// The owner.
     pub uid: u32,
-    /// The owner's group.
     pub gid: u32,
     /// The size in bytes.
     pub size: u64,

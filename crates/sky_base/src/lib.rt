@@ -1,10 +1,11 @@
 //! The plain values that every layer of the proxy speaks of: moments, names, attributes and
-//! credentials, the names of objects in the cloud, the paths on the command line, the want of memory,
-//! and the statuses with which a run ends.
+//! credentials, the names of objects in the cloud, the paths on the command line, running out of
+//! memory, and the statuses with which a run ends. `specs/Limits.antt` has every limit's number.
 #![tactic(auto)]
 
 mod attr;
 mod cred;
+mod laws;
 mod memory;
 mod moment;
 mod name;
@@ -14,6 +15,7 @@ mod status;
 
 pub use attr::{Attr, Device, Kind};
 pub use cred::{Cred, Gids, Want};
+pub use laws::{limits_are_as_defined, moments_are_ordered, names_are_ordered};
 pub use memory::NoMemory;
 pub use moment::Moment;
 pub use name::Name;

@@ -1,7 +1,9 @@
+//! The error of calls for which there is no memory.
+
 use std::alloc::{AllocError, AllocFailed};
 
-/// There was no memory for what was asked. A call that answers it leaves every value as it was,
-/// unless its own docs say otherwise.
+/// There was no memory for what was asked. All values are then as before the call, unless the call's
+/// own docs say otherwise.
 #[derive(Clone, Copy, Debug, PartialEq, Eq)]
 pub struct NoMemory;
 

@@ -1,3 +1,5 @@
+//! Moments.
+
 /// A moment, as NFS tells one (`nfstime3`, RFC 1813 section 2.6).
 #[derive(Clone, Copy, Debug, PartialEq, Eq, PartialOrd, Ord)]
 pub struct Moment {

@@ -1,4 +1,7 @@
+//! The name of an entry of a directory.
+
 ghost use Rattle.std.specs.Prelude.{◌≡◌, ◌≤◌, ◌↔◌, length, IsSome, IfSome};
+ghost use Rattle.sky_base.specs.Limits.{max_name_bytes};
 
 use std::marker::Model;
 
@@ -10,24 +13,25 @@ pub struct Name {
 
 impl Model for Name {
     ghost use Rattle.std.specs.Prelude.{List, ℕ, ◌≤◌, length};
+    ghost use Rattle.sky_base.specs.Limits.{max_name_bytes};
 
     ghost Value = { List ℕ };
 
     ghost view = { λ n. n.bytes.items };
 
-    ghost invariant = { λ n. length n.bytes.items ≤ 255 };
+    ghost invariant = { λ n. length n.bytes.items ≤ max_name_bytes };
 }
 
 impl Name {
     /// The most bytes that a name has.
-    pub const MOST: usize = 255;
+    pub const MAX: usize = 255;
 
     /// The name with these bytes, which it takes over. `None` where there are more than 255; they are given up then.
     pub fn new(bytes: Vec<u8>) -> Option<Name>
-        ensures fits { IsSome result ↔ (length bytes.items ≤ 255) }
+        ensures fits { IsSome result ↔ (length bytes.items ≤ max_name_bytes) }
         ensures same { IfSome result (λ name. name ≡ bytes.items) }
     {
-        if bytes.len() <= Name::MOST {
+        if bytes.len() <= Name::MAX {
             Some(Name { bytes })
         } else {
             None
@@ -37,7 +41,7 @@ impl Name {
     /// Its bytes, to read.
     pub fn as_bytes(&self) -> &[u8]
         ensures same { result.now ≡ self.now }
-        ensures most { length self.now ≤ 255 }
+        ensures most { length self.now ≤ max_name_bytes }
     {
         self.bytes.as_slice()
     }
@@ -45,7 +49,7 @@ impl Name {
     /// Its bytes, given back.
     pub fn into_bytes(self) -> Vec<u8>
         ensures same { result.items ≡ self }
-        ensures most { length self ≤ 255 }
+        ensures most { length self ≤ max_name_bytes }
     {
         self.bytes
     }

@@ -1,3 +1,5 @@
+//! The names of objects in the cloud.
+
 /// Who wrote an object of the log: the proxy, or the cleaner beside the cloud. Each has a directory of its own.
 #[derive(Clone, Copy, Debug, PartialEq, Eq, PartialOrd, Ord)]
 pub enum Dir {

@@ -1,3 +1,5 @@
+//! What the words of the command line name.
+
 ghost use Rattle.std.specs.Prelude.{◌≡◌, string_bytes};
 
 use std::marker::Model;
@@ -44,7 +46,7 @@ impl Text {
 pub struct Paths {
     /// The journal's file.
     pub journal: Option<Text>,
-    /// The cloud's folder.
+    /// The cloud's directory.
     pub cloud: Option<Text>,
     /// The file of the settings.
     pub settings: Option<Text>,

@@ -1,3 +1,5 @@
+//! How a run ends.
+
 ghost use Rattle.std.specs.Prelude.{◌≡◌, ◌<◌};
 ghost use Rattle.sky_base.specs.Status.{number_of, place_of};
 
