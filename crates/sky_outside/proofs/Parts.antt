@@ -10,17 +10,17 @@ rest_is bytes at =
     let e : length (drop at bytes) ≡ length bytes - at = length-drop at bytes in
     rw (← e) (take-length (drop at bytes))
 
--- a front, and the next n of what is left
+-- a prefix, and the next n of what is left
 pub next_part : (bytes : List ℕ) (at n : ℕ) → take at bytes ++ take n (take (length bytes - at) (drop at bytes)) ≡ take (at + n) bytes
 next_part bytes at n = rw (rest_is bytes at) (sym (take-add at n bytes))
 
--- a front that stays, and the next n of what was written behind it
+-- a prefix that stays, and the next n of what was written behind it
 pub next_written : (bytes new : List ℕ) (at n : ℕ) → at ≤ length bytes → n ≤ length new → take at bytes ++ take n new ≡ take (at + n) (put_mid at (length bytes - at) bytes new)
 next_written bytes new at n within fits =
-    let front : length (take at bytes) ≡ at = length-take-le at bytes within in
+    let prefix : length (take at bytes) ≡ at = length-take-le at bytes within in
     let left : List ℕ = drop (length bytes - at) (drop at bytes) in
     let split : take (at + n) (take at bytes ++ (new ++ left)) ≡ take at bytes ++ take n (new ++ left) =
-    ap (λ (k : ℕ). take (k + n) (take at bytes ++ (new ++ left))) (sym front) ∙ take-append-add (take at bytes) (new ++ left) n in
+    ap (λ (k : ℕ). take (k + n) (take at bytes ++ (new ++ left))) (sym prefix) ∙ take-append-add (take at bytes) (new ++ left) n in
     sym (split ∙ ap (λ (x : List ℕ). take at bytes ++ x) (take-append-le n new left fits))
 
 -- the next n of what is left end within the list

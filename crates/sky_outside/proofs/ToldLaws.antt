@@ -32,17 +32,17 @@ pub Had-told : (a b : Option (List ℕ)) (x bytes : List ℕ) → Had a b x → 
 Had-told a None x bytes had told = absurd cc
 Had-told a (Some rest) x bytes had told = let e : Some bytes ≡ Some (x ++ rest) = sym told ∙ had in (rest, refl, cc)
 
--- a front of a piece is a front of a longer one
+-- a prefix of a piece is a prefix of a longer one
 pub GivenPart-first : (a b : Option (List ℕ)) (x y : List ℕ) → GivenPart a b x → GivenPart a b (x ++ y)
 GivenPart-first a b x y part =
     (part.0, omega (arith, part.1, length-append x y), subst (λ (bytes : List ℕ). Given a b bytes) (sym (take-append-le part.0 x y (omega (arith, part.1)))) part.2)
 
--- a whole piece, and then a front of the next
+-- a whole piece, and then a prefix of the next
 pub GivenPart-then : (a b c : Option (List ℕ)) (x y : List ℕ) → Given a b x → GivenPart b c y → GivenPart a c (x ++ y)
 GivenPart-then a b c x y whole part =
     (length x + part.0, omega (arith, part.1, length-append x y), subst (λ (bytes : List ℕ). Given a c bytes) (sym (take-append-add x y part.0)) (Given-then a b c x (take part.0 y) whole part.2))
 
--- the whole of the first of two pieces is a front of both, where the second has a byte
+-- the whole of the first of two pieces is a prefix of both, where the second has a byte
 pub GivenPart-whole : (a b : Option (List ℕ)) (x y : List ℕ) → 0 < length y → Given a b x → GivenPart a b (x ++ y)
 GivenPart-whole a b x y some whole =
     (length x, omega (arith, some, length-append x y), subst (λ (bytes : List ℕ). Given a b bytes) (sym (take-append_seam x y)) whole)

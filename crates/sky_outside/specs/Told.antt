@@ -6,11 +6,11 @@ use Rattle.std.specs.Option.{option_map}
 abbrev pub WhereTold : Option (List ℕ) → (List ℕ → Type 0) → Type 0
 WhereTold told P = IfSome told P
 
--- A source had these bytes at its front, and now has what followed them.
+-- A source began with these bytes, and now has what followed them.
 abbrev pub Had : Option (List ℕ) → Option (List ℕ) → List ℕ → Type 0
 Had before now bytes = before ≡ option_map (λ rest. bytes ++ rest) now
 
--- It had a front of these bytes, and not all of them.
+-- It began with a prefix of these bytes that isn't all of them, and now has what followed that.
 abbrev pub HadPart : Option (List ℕ) → Option (List ℕ) → List ℕ → Type 0
 HadPart before now bytes = (n : ℕ) × (n < length bytes) × Had before now (take n bytes)
 
@@ -18,6 +18,6 @@ HadPart before now bytes = (n : ℕ) × (n < length bytes) × Had before now (ta
 abbrev pub Given : Option (List ℕ) → Option (List ℕ) → List ℕ → Type 0
 Given before now bytes = now ≡ option_map (λ written. written ++ bytes) before
 
--- It was given a front of these bytes, and not all of them.
+-- It was given a prefix of these bytes that isn't all of them.
 abbrev pub GivenPart : Option (List ℕ) → Option (List ℕ) → List ℕ → Type 0
 GivenPart before now bytes = (n : ℕ) × (n < length bytes) × Given before now (take n bytes)

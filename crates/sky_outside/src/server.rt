@@ -1,3 +1,5 @@
+//! The clock, the threads, and the doors through which clients come.
+
 ghost use Rattle.std.specs.Prelude.{◌<◌, ℕ, IsErr, IfErr, ◌≡◌};
 ghost use Rattle.sky_outside.specs.Count.{Counts};
 

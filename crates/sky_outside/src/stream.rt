@@ -1,3 +1,5 @@
+//! Where bytes come from and go to.
+
 ghost use Rattle.std.specs.Prelude.{◌≡◌, ◌<◌, ◌≤◌, ℕ, List, [], length, take, Option, IfOk, OnErr, IsErr};
 ghost use Rattle.sky_outside.specs.Count.{Counts};
 ghost use Rattle.sky_outside.specs.Told.{WhereTold, Had, Given};
@@ -14,7 +16,7 @@ pub trait Source {
     /// How often it has failed, which never falls.
     ghost faults: { Self → ℕ };
 
-    /// Reads some bytes into the front of the buffer and says how many. No bytes, where the buffer has
+    /// Reads some bytes into the start of the buffer and says how many. No bytes, where the buffer has
     /// room, is the end of the source. `Failed` takes none; what the buffer then holds is left open.
     fn read(&mut self, buf: &mut [u8]) -> Result<usize, Failed>
         ensures within { IfOk result (λ n. n ≤ length buf.old) }
@@ -32,7 +34,7 @@ pub trait Sink {
     /// How often it has failed, which never falls.
     ghost faults: { Self → ℕ };
 
-    /// Takes some bytes from the front of the piece, at least one if there is one, and says how many.
+    /// Takes some bytes from the start of the piece, at least one if there is one, and says how many.
     /// `Failed` takes none.
     fn write(&mut self, bytes: &[u8]) -> Result<usize, Failed>
         ensures within { IfOk result (λ n. n ≤ length bytes.now) }

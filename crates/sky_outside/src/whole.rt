@@ -1,3 +1,5 @@
+//! Reading and writing whole pieces, in as many calls as it takes.
+
 ghost use Rattle.std.specs.Prelude.{◌≡◌, [], OnOk, OnErr, IsErr, IsErrOf};
 ghost use Rattle.sky_outside.specs.Count.{Counts};
 ghost use Rattle.sky_outside.specs.Told.{WhereTold, Had, HadPart, Given, GivenPart};
@@ -23,7 +25,8 @@ impl From<Failed> for FillFault {
 }
 
 /// Fills the whole buffer from a source, in as many reads as it takes. Where it answers a fault, the
-/// front of the buffer holds what was taken until then.
+/// buffer begins with what was taken until then. Once a read has failed the answer is
+/// `Broken`.
 pub fn fill<S: Source>(source: &mut S, buf: &mut [u8]) -> Result<(), FillFault>
     ensures ok { OnOk result (Had (S.left source.old) (S.left source.new) buf.new) }
     ensures partly { OnErr result (HadPart (S.left source.old) (S.left source.new) buf.new) }
@@ -42,7 +45,8 @@ pub fn fill<S: Source>(source: &mut S, buf: &mut [u8]) -> Result<(), FillFault>
 }
 
 /// Gives a sink the whole piece, in as many writes as it takes. Where it fails, the sink was given a
-/// front of the piece.
+/// prefix of the piece. Once a write has failed the answer is
+/// `Failed`.
 pub fn write_all<K: Sink>(sink: &mut K, bytes: &[u8]) -> Result<(), Failed>
     ensures ok { OnOk result (Given (K.written sink.old) (K.written sink.new) bytes.now) }
     ensures partly { OnErr result (GivenPart (K.written sink.old) (K.written sink.new) bytes.now) }

@@ -1,4 +1,5 @@
-use Rattle.std.proofs.Common.{List, ℕ, ◌≤◌, length, subst, arith}
+use Rattle.std.proofs.Common.{List, ℕ, ◌≤◌, ◌∙◌, length, subst, arith}
+use Rattle.std.proofs.lemmas.Bool.{false≢true}
 use Rattle.sky_outside.specs.Told.{Had}
 use Rattle.sky_outside.proofs.Parts.{next_written, written_within}
 use Rattle.sky_outside.proofs.ToldLaws.{Had-then}
@@ -11,5 +12,5 @@ loop-at-preserved g c =
     record {
       within = written_within c.loop-at.buf c.read.new.buf c.loop-at.at c.in_ok-taken.taken c.loop-at.invariant.within fits;
       taken = subst (λ (bytes : List ℕ). Had (g.S.Source.left c.args.source.now) (g.S.Source.left c.read.new.self) bytes) (next_written c.loop-at.buf c.read.new.buf c.loop-at.at c.in_ok-taken.taken c.loop-at.invariant.within fits) taken;
-      grows = omega (arith, c.read.ensures.cause.grows);
+      quiet = c.in_ok-taken.ensures.cause.quiet false≢true ∙ c.loop-at.invariant.quiet;
     }

@@ -1,4 +1,5 @@
-use Rattle.std.proofs.Common.{List, ℕ, subst, arith}
+use Rattle.std.proofs.Common.{List, ℕ, ◌∙◌, subst}
+use Rattle.std.proofs.lemmas.Bool.{false≢true}
 use Rattle.sky_outside.specs.Told.{Given}
 use Rattle.sky_outside.proofs.Parts.{next_part, part_within}
 use Rattle.sky_outside.proofs.ToldLaws.{Given-then}
@@ -10,5 +11,5 @@ loop-at-preserved g c =
     record {
       within = part_within c.args.bytes.now c.loop-at.at c.in_ok-at.field-0 c.loop-at.invariant.within c.in_ok-at.ensures.within;
       given = subst (λ (bytes : List ℕ). Given (g.K.Sink.written c.args.sink.now) (g.K.Sink.written c.write.new.self) bytes) (next_part c.args.bytes.now c.loop-at.at c.in_ok-at.field-0) given;
-      grows = omega (arith, c.write.ensures.cause.grows);
+      quiet = c.in_ok-at.ensures.cause.quiet false≢true ∙ c.loop-at.invariant.quiet;
     }
