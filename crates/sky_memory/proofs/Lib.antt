@@ -1,2 +1,1 @@
-pub mod NameOrder
 pub mod ObjectLaws

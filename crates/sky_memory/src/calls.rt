@@ -1,3 +1,5 @@
+//! Counting the calls of a device, and which of them fail.
+
 ghost use Rattle.std.specs.Prelude.{◌≡◌, ◌⊎◌, ◌↔◌, IsTrue, IsErr, is_err};
 ghost use Rattle.sky_outside.specs.Count.{Counts};
 

@@ -1,6 +1,9 @@
+//! The objects of a cloud in memory.
+
 ghost use Rattle.std.specs.Prelude.{◌≡◌, [], map, All, Some, None, OnOk, OnErr, IfOk};
 ghost use Rattle.std.specs.Option.{option_map};
 ghost use Rattle.std.specs.List.Sorted.{IsStrictlySortedBy};
+ghost use Rattle.sky_base.specs.Order.{name_order};
 
 use sky_base::{NoMemory, SegName};
 use sky_outside::Held;
@@ -28,7 +31,7 @@ impl Model for Objects {
 }
 
 impl Objects {
-    ghost use Rattle.sky_memory.specs.Objects.{name_cmp, IsInRange, object_of, ChangesOnly, held_of};
+    ghost use Rattle.sky_memory.specs.Objects.{IsInRange, object_of, ChangesOnly, held_of};
 
     /// No objects.
     pub fn new(alloc: Global) -> Objects
@@ -61,7 +64,7 @@ impl Objects {
         ensures objects { IfOk result (λ held. held.items ≡ map held_of self.now) }
         ensures in_range { IfOk result (λ held. All (λ h. IsInRange h.name) held.items) }
         ensures ascending { IfOk result
-            (λ held. IsStrictlySortedBy name_cmp (map (λ h. h.name) held.items)) }
+            (λ held. IsStrictlySortedBy name_order (map (λ h. h.name) held.items)) }
     {
         let mut listed = Vec::with_capacity(alloc, self.held.len())?;
         for (name, bytes) in &self.held {

@@ -1,3 +1,5 @@
+//! Sinks in memory.
+
 ghost use Rattle.std.specs.Prelude.{◌≡◌, ◌<◌, ◌+◌, ◌↔◌, ◌⊎◌, [], ◌++◌, length, Some, None, Ok, IfOk, OnOk, OnErr, IsErr, is_err};
 ghost use Rattle.sky_outside.specs.Count.{Counts};
 
@@ -84,7 +86,7 @@ impl Sink for MemSink {
     }
 }
 
-/// A sink that never fails. It takes each piece whole, keeps nothing and tells nothing.
+/// A sink that never fails. It takes whole pieces, and neither keeps nor tells their bytes.
 #[derive(Clone, Copy, Debug, PartialEq, Eq)]
 pub struct SureSink;
 

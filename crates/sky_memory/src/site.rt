@@ -1,5 +1,9 @@
-ghost use Rattle.std.specs.Prelude.{◌≡◌, ◌+◌, ◌<◌, ◌≤◌, ◌^◌, ◌↔◌, ◌++◌, [], ℕ, length, take, drop, replicate, map, All, Ok, Err, Some, None, IsOk, OnOk, OnErr, IfOk, IfErr, IsErrOf, IsSomeAnd};
+//! A journal's disk and a cloud in memory.
+
+ghost use Rattle.std.specs.Prelude.{◌≡◌, ◌+◌, ◌<◌, ◌≤◌, ◌↔◌, ◌++◌, [], ℕ, length, take, drop, replicate, map, All, Ok, Err, Some, None, IsOk, OnOk, OnErr, IfOk, IfErr, IsErrOf, IsSomeAnd};
 ghost use Rattle.std.specs.List.Sorted.{IsStrictlySortedBy};
+ghost use Rattle.sky_base.specs.Limits.{max_number};
+ghost use Rattle.sky_base.specs.Order.{name_order};
 
 use crate::objects::Objects;
 use sky_base::{NoMemory, SegName};
@@ -30,7 +34,7 @@ impl SureSite {
     pub fn new(alloc: Global, size: u64) -> Result<SureSite, NoMemory>
         ensures image { IfOk result (λ site. site.image ≡ replicate size 0) }
         ensures objects { IfOk result (λ site. site.objects ≡ []) }
-        ensures size { IfOk result (λ site. ⟦<SureSite as Disk>⟧.bytes_of site ≡ size) }
+        ensures size { IfOk result (λ site. ⟦<SureSite as Storage>⟧.bytes_of site ≡ size) }
         ensures disk_faults { IfOk result (λ site. ⟦<SureSite as Storage>⟧.disk_faults site ≡ 0) }
         ensures cloud_faults { IfOk result (λ site. ⟦<SureSite as Storage>⟧.cloud_faults site ≡ 0) }
     {
@@ -43,14 +47,16 @@ impl SureSite {
 }
 
 impl Storage for SureSite {
+    ghost use Rattle.std.specs.Prelude.{length};
+
     ghost disk_faults = { λ _. 0 };
 
     ghost cloud_faults = { λ _. 0 };
+
+    ghost bytes_of = { λ s. length s.image };
 }
 
 impl Disk for SureSite {
-    ghost bytes_of = { λ s. length s.image };
-
     /// The number of bytes. It never changes.
     fn size(&self) -> u64
         ensures { result ≡ length self.now.image }
@@ -93,12 +99,12 @@ impl Disk for SureSite {
 }
 
 impl Cloud for SureSite {
-    ghost use Rattle.sky_memory.specs.Objects.{name_cmp, object_of, ChangesOnly, held_of};
+    ghost use Rattle.sky_memory.specs.Objects.{object_of, ChangesOnly, held_of};
 
     /// Stores a copy of the bytes, in the place of what had that name. `Memory` changes nothing.
     fn put(&mut self, name: SegName, bytes: &[u8]) -> Result<(), PutFault>
-        requires run { name.run < 2 ^ 62 }
-        requires seq { name.seq < 2 ^ 62 }
+        requires run { name.run < max_number }
+        requires seq { name.seq < max_number }
         ensures ok { OnOk result
             (ChangesOnly self.old.objects self.new.objects name (Some bytes.now)) }
         ensures err { OnErr result (self.new.objects ≡ self.old.objects) }
@@ -111,12 +117,12 @@ impl Cloud for SureSite {
         }
     }
 
-    /// Fills the buffer with the object's bytes from this offset on. `Missing` comes exactly where no
-    /// object has that name, and `Short` exactly where the range passes its end. Then the buffer is as
-    /// it was.
+    /// Fills the buffer with the object's bytes from this offset on. `Missing` says that no object has
+    /// that name, and `Short` that the range goes past the object's end; neither comes otherwise, and
+    /// both leave the buffer.
     fn get(&mut self, name: SegName, offset: u64, buf: &mut [u8]) -> Result<(), GetFault>
-        requires run { name.run < 2 ^ 62 }
-        requires seq { name.seq < 2 ^ 62 }
+        requires run { name.run < max_number }
+        requires seq { name.seq < max_number }
         ensures ok { OnOk result (IsSomeAnd (object_of self.old.objects name)
             (λ object. buf.new ≡ take (length buf.old) (drop offset object))) }
         ensures missing { (result ≡ Err GetFault.Missing) ↔ (object_of self.old.objects name ≡ None) }
@@ -142,11 +148,11 @@ impl Cloud for SureSite {
     /// The objects that it holds, in the order of their names. `Memory` comes where there was none for
     /// the list.
     fn list(&mut self) -> Result<Vec<Held>, PutFault>
-        ensures runs { IfOk result (λ held. All (λ h. h.name.run < 2 ^ 62) held.items) }
-        ensures seqs { IfOk result (λ held. All (λ h. h.name.seq < 2 ^ 62) held.items) }
+        ensures runs { IfOk result (λ held. All (λ h. h.name.run < max_number) held.items) }
+        ensures seqs { IfOk result (λ held. All (λ h. h.name.seq < max_number) held.items) }
         ensures objects { IfOk result (λ held. held.items ≡ map held_of self.old.objects) }
         ensures ascending { IfOk result
-            (λ held. IsStrictlySortedBy name_cmp (map (λ h. h.name) held.items)) }
+            (λ held. IsStrictlySortedBy name_order (map (λ h. h.name) held.items)) }
         ensures memory { IfErr result (λ e. e ≡ PutFault.Memory) }
         ensures same { self.new ≡ self.old }
     {
@@ -162,8 +168,8 @@ impl Site for SureSite {
 
     /// Removes an object, or does nothing where none has that name.
     fn remove(&mut self, name: SegName) -> Result<(), Failed>
-        requires run { name.run < 2 ^ 62 }
-        requires seq { name.seq < 2 ^ 62 }
+        requires run { name.run < max_number }
+        requires seq { name.seq < max_number }
         ensures sure { IsOk result }
         ensures objects { ChangesOnly self.old.objects self.new.objects name None }
         ensures image { self.new.image ≡ self.old.image }

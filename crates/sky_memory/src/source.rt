@@ -1,3 +1,5 @@
+//! Sources in memory.
+
 ghost use Rattle.std.specs.Prelude.{◌≡◌, ◌↔◌, ◌++◌, length, take, min, Some, IfOk, OnErr, IsErr, IsOk, is_err};
 ghost use Rattle.sky_outside.specs.Count.{Counts};
 
@@ -5,7 +7,7 @@ use crate::calls::Calls;
 use sky_outside::{Failed, Source};
 use std::marker::Model;
 
-// Bytes that are taken from the front.
+// Bytes that are taken one after the other, from the first on.
 #[derive(Debug, Drop)]
 struct Supply {
     bytes: Vec<u8>,

@@ -1,4 +1,7 @@
-ghost use Rattle.std.specs.Prelude.{◌≡◌, ◌+◌, ◌≤◌, ◌<◌, ◌^◌, length};
+//! Tests of the devices.
+
+ghost use Rattle.std.specs.Prelude.{◌≡◌, ◌+◌, ◌≤◌, ◌<◌, length};
+ghost use Rattle.sky_base.specs.Limits.{max_number};
 
 use super::*;
 use sky_base::{Dir, SegName};
@@ -20,9 +23,9 @@ fn write_and_read<D: Disk>(
     bytes: &[u8],
     buf: &mut [u8],
 ) -> Result<(), Failed>
-    requires within { at + length bytes.now ≤ D.bytes_of disk.old }
+    requires within { at + length bytes.now ≤ D.Storage.bytes_of disk.old }
     requires same { length buf.old ≡ length bytes.now }
-    ensures { D.bytes_of disk.new ≡ D.bytes_of disk.old }
+    ensures { D.Storage.bytes_of disk.new ≡ D.Storage.bytes_of disk.old }
 {
     disk.write_at(at, bytes)?;
     disk.sync()?;
@@ -30,15 +33,15 @@ fn write_and_read<D: Disk>(
 }
 
 fn store<C: Cloud>(cloud: &mut C, name: SegName, bytes: &[u8]) -> Result<(), PutFault>
-    requires run { name.run < 2 ^ 62 }
-    requires seq { name.seq < 2 ^ 62 }
+    requires run { name.run < max_number }
+    requires seq { name.seq < max_number }
 {
     cloud.put(name, bytes)
 }
 
 fn discard<P: Site>(site: &mut P, name: SegName) -> Result<(), Failed>
-    requires run { name.run < 2 ^ 62 }
-    requires seq { name.seq < 2 ^ 62 }
+    requires run { name.run < max_number }
+    requires seq { name.seq < max_number }
 {
     site.remove(name)
 }
@@ -103,9 +106,9 @@ fn a_disk_keeps_what_was_written(rt: HostRuntime) -> Result<(), Fail> {
 }
 
 fn name(seq: u64) -> SegName
-    requires { seq < 2 ^ 62 }
-    ensures run { result.run < 2 ^ 62 }
-    ensures seq { result.seq < 2 ^ 62 }
+    requires { seq < max_number }
+    ensures run { result.run < max_number }
+    ensures seq { result.seq < max_number }
 {
     SegName {
         dir: Dir::Proxy,
@@ -116,7 +119,7 @@ fn name(seq: u64) -> SegName
 }
 
 fn length_of(seq: u64, length: u64) -> Held
-    requires { seq < 2 ^ 62 }
+    requires { seq < max_number }
 {
     Held {
         name: name(seq),

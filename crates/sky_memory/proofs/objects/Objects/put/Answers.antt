@@ -1,6 +1,7 @@
 use Rattle.std.proofs.Common.{◌≡◌, Some, refl, ap, rules}
 use Rattle.std.proofs.lemmas.Map.Views.{All-keys-insert_entry}
-use Rattle.sky_memory.specs.Objects.{name_cmp, IsInRange}
+use Rattle.sky_base.proofs.OrderLaws.{name_cmp}
+use Rattle.sky_memory.specs.Objects.{IsInRange}
 use Rattle.sky_memory.proofs.ObjectLaws.{changes_only}
 use Rattle.sky_memory.proofs.objects.Objects.put.Goals as goal
 

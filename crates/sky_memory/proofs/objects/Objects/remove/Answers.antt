@@ -1,7 +1,8 @@
 use Rattle.std.proofs.Common.{None, refl}
 use Rattle.std.specs.BTreeMap.{is_at}
 use Rattle.std.proofs.lemmas.Map.Views.{All-map-remove_entry}
-use Rattle.sky_memory.specs.Objects.{name_cmp, IsInRange}
+use Rattle.sky_base.proofs.OrderLaws.{name_cmp}
+use Rattle.sky_memory.specs.Objects.{IsInRange}
 use Rattle.sky_memory.proofs.ObjectLaws.{changes_only}
 use Rattle.sky_memory.proofs.objects.Objects.remove.Goals as goal
 

@@ -3,7 +3,7 @@ use Rattle.std.proofs.lemmas.List.{take_at, drop-drop, take-append-drop}
 use Rattle.std.proofs.lemmas.Grind.{common_steps}
 use Rattle.sky_memory.proofs.source.Supply.take_into.Goals as goal
 
--- what was copied to the front of the buffer, and what is left behind it
+-- what was copied to the start of the buffer, and what is left behind it
 split : (left bytes buf piece : List ℕ) (taken n : ℕ) → drop taken bytes ≡ left → piece ≡ take n left → length piece ≡ n → left ≡ take n (piece ++ drop n buf) ++ drop (taken + n) bytes
 split left bytes buf piece taken n is copied long =
     sym (take-append-drop n left)
