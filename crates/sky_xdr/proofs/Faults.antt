@@ -1,12 +1,13 @@
 -- When each fault comes.
---   uint_short, uhyper_short, bool_short, bool_bad, opaque_too_long, opaque_short      of what reading gives
+--   uint_short, uhyper_short, bool_short, bool_bad, fixed_short, opaque_too_long, opaque_short      of what reading gives
 --   at_ok, at_err                                                                      of what a call returned
-use Rattle.std.proofs.Common.{◌≡◌, ℕ, ◌<◌, ◌≤◌, ◌↔◌, List, length, Result, Ok, Err, sym, ap, ◌∙◌, arith, IsErrOf}
+use Rattle.std.proofs.Common.{◌≡◌, ℕ, ◌+◌, ◌<◌, ◌≤◌, ◌↔◌, List, length, Result, Ok, Err, sym, ap, ◌∙◌, arith, IsErrOf}
 use Rattle.std.proofs.lemmas.List.{length-drop}
 use Rattle.std.proofs.lemmas.Bool.Decides.{nat_tests}
 use Rattle.sky_xdr.specs.declared.fault.XdrFault.{XdrFault}
 use Rattle.sky_xdr.specs.declared.fault.XdrFault.TheVariants.{TooLong, Short, BadBool}
-use Rattle.sky_xdr.specs.Reading.{word, uint_at, uhyper_at, bool_at, opaque_at, IsCutShort}
+use Rattle.sky_xdr.specs.Reading.{word, uint_at, uhyper_at, bool_at, fixed_at, opaque_at, IsCutShort}
+use Rattle.sky_xdr.specs.Encoding.{padding}
 
 abbrev failed : {A : Type 0} → XdrFault → Result A XdrFault
 failed e = Err e
@@ -37,6 +38,10 @@ bool_short bytes = grind (arith, nat_tests)
 pub bool_bad : (bytes : List ℕ) → (bool_at bytes ≡ Err BadBool) ↔ ((4 ≤ length bytes) × (1 < word bytes))
 unfolding bool_at uint_at
 bool_bad bytes = grind (arith, nat_tests)
+
+pub fixed_short : (n : ℕ) (bytes : List ℕ) → (fixed_at n bytes ≡ Err Short) ↔ (length bytes < n + padding n)
+unfolding fixed_at
+fixed_short n bytes = grind (arith, nat_tests)
 
 pub opaque_too_long : (max : ℕ) (bytes : List ℕ) → (opaque_at max bytes ≡ Err TooLong) ↔ ((4 ≤ length bytes) × (max < word bytes))
 unfolding opaque_at uint_at

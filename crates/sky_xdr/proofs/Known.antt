@@ -2,7 +2,7 @@
 use Rattle.std.proofs.Common.{◌≡◌, true, false, [], ◌∷◌, Ok, Err, refl}
 use Rattle.std.specs.Prelude.{codes}
 use Rattle.sky_xdr.specs.declared.fault.XdrFault.TheVariants.{TooLong, Short, BadBool, Left}
-use Rattle.sky_xdr.specs.Spelling.{uint, uhyper, bool, opaque}
+use Rattle.sky_xdr.specs.Encoding.{uint, uhyper, bool, opaque}
 use Rattle.sky_xdr.specs.Reading.{word, uint_at, bool_at, opaque_at, end_at}
 
 -- 100003 is 0x000186a3

@@ -1,13 +1,13 @@
--- Numbers and booleans: what is spelled is read again, and what is read is spelled so.
---   length-uint, length-uhyper, length-bool                 how many bytes a spelling has
---   AreBytes-uint, AreBytes-uhyper, AreBytes-bool           each byte of a spelling is below 256
+-- Numbers and booleans: what is encoded is read again, and what is read is encoded so.
+--   length-uint, length-uhyper, length-bool                 how many bytes a encoding has
+--   AreBytes-uint, AreBytes-uhyper, AreBytes-bool           each byte of a encoding is below 256
 --   AreBytes-append, AreBytes-take, AreBytes-drop, AreBytes-zeros      bytes put together and taken apart
---   uint_again, uhyper_again, bool_again                    a spelling is read again, whatever follows it
---   uint_took, uhyper_took, bool_took                       what was read is spelled so (Took), and fits its type
+--   uint_again, uhyper_again, bool_again                    a encoding is read again, whatever follows it
+--   uint_took, uhyper_took, bool_took                       what was read is encoded so (Took), and fits its type
 --   end_again, end_took                                     the end is where nothing is left
 --   Took-then                                               two items, one after the other
---   uint_same, uhyper_same, bool_same                       one spelling stands for one value
---   uint-word, uhyper-double_word                           the spelling of the first bytes' number is those bytes
+--   uint_same, uhyper_same, bool_same                       one encoding stands for one value
+--   uint-word, uhyper-double_word                           the encoding of the first bytes' number is those bytes
 --   word_fits, double_word_fits                             that number fits its type
 --   bind_ok, guard_ok, ok_is, pair_is                       steps of reading that did not fail
 use Rattle.std.proofs.Common.{◌≡◌, ℕ, zero, suc, ◌+◌, ◌-◌, replicate, ◌^◌, ◌<◌, ◌≤◌, Bool, true, false, cond, ltb, eqb, List, [], ◌++◌, length, take, drop, Result, Ok, Err, refl, sym, ap, subst, ◌∙◌, append_assoc, arith, inl, inr, lit<}
@@ -18,7 +18,7 @@ use Rattle.std.proofs.lemmas.Nat.{be_bytes_4, be_bytes_8, from_be_bytes-to_be_by
 use Rattle.byteorder.specs.Endian.{big_number}
 use Rattle.sky_xdr.specs.declared.fault.XdrFault.{XdrFault}
 use Rattle.sky_xdr.specs.declared.fault.XdrFault.TheVariants.{Short, BadBool, Left}
-use Rattle.sky_xdr.specs.Spelling.{AreBytes, uint, uhyper, bool}
+use Rattle.sky_xdr.specs.Encoding.{AreBytes, uint, uhyper, bool}
 use Rattle.sky_xdr.specs.Reading.{◌>>=◌, word, double_word, uint_at, uhyper_at, bool_at, end_at}
 
 pub AreBytes-drop : (n : ℕ) (bytes : List ℕ) → AreBytes bytes → AreBytes (drop n bytes)
@@ -106,7 +106,7 @@ AreBytes-uhyper n (suc (suc (suc (suc (suc (suc (suc (suc i)))))))) = omega arit
 pub AreBytes-bool : (b : Bool) → AreBytes (bool b)
 AreBytes-bool b = AreBytes-uint (cond b 1 0)
 
--- ---- what was spelled is read again
+-- ---- what was encoded is read again
 
 pub uint_again : (n : ℕ) (rest : List ℕ) → n < 2 ^ 32 → uint_at (uint n ++ rest) ≡ Ok (n, rest)
 unfolding uint_at uint word
@@ -125,9 +125,9 @@ unfolding bool_at
 bool_again true rest = rw (uint_again 1 rest (lit< tt)) refl
 bool_again false rest = rw (uint_again 0 rest (lit< tt)) refl
 
--- ---- what is read is spelled so
+-- ---- what is read is encoded so
 
--- what was read from the front: its spelling, the bytes behind it, and that they are bytes
+-- what was read from the start: its encoding, the bytes behind it, and that they are bytes
 pub record Took (bytes text rest : List ℕ) : Type 0 where
   pub parts : bytes ≡ text ++ rest
   pub rest_fits : AreBytes rest
@@ -157,8 +157,8 @@ uint_took bytes n rest fits e =
     let g = guard_ok (ltb (length bytes) 4) Short (Ok (word bytes, drop 4 bytes)) (n, rest) e in
     let long : 4 ≤ length bytes = ltb-false _ _ g.0 in
     let is = pair_is (word bytes) n (drop 4 bytes) rest (Ok (word bytes, drop 4 bytes)) refl g.1 in
-    let front : uint n ≡ take 4 bytes = ap uint (sym is.0) ∙ uint-word bytes fits long in
-    (record { parts = rw (front, ← is.1) (sym (take-append-drop 4 bytes)); rest_fits = rw (← is.1) (AreBytes-drop 4 bytes fits) }, rw (← is.0) (word_fits bytes fits))
+    let prefix : uint n ≡ take 4 bytes = ap uint (sym is.0) ∙ uint-word bytes fits long in
+    (record { parts = rw (prefix, ← is.1) (sym (take-append-drop 4 bytes)); rest_fits = rw (← is.1) (AreBytes-drop 4 bytes fits) }, rw (← is.0) (word_fits bytes fits))
 
 pub uhyper_took : (bytes : List ℕ) (n : ℕ) (rest : List ℕ) → AreBytes bytes → uhyper_at bytes ≡ Ok (n, rest) → Took bytes (uhyper n) rest × (n < 2 ^ 64)
 unfolding uhyper_at
@@ -166,8 +166,8 @@ uhyper_took bytes n rest fits e =
     let g = guard_ok (ltb (length bytes) 8) Short (Ok (double_word bytes, drop 8 bytes)) (n, rest) e in
     let long : 8 ≤ length bytes = ltb-false _ _ g.0 in
     let is = pair_is (double_word bytes) n (drop 8 bytes) rest (Ok (double_word bytes, drop 8 bytes)) refl g.1 in
-    let front : uhyper n ≡ take 8 bytes = ap uhyper (sym is.0) ∙ uhyper-double_word bytes fits long in
-    (record { parts = rw (front, ← is.1) (sym (take-append-drop 8 bytes)); rest_fits = rw (← is.1) (AreBytes-drop 8 bytes fits) }, rw (← is.0) (double_word_fits bytes fits))
+    let prefix : uhyper n ≡ take 8 bytes = ap uhyper (sym is.0) ∙ uhyper-double_word bytes fits long in
+    (record { parts = rw (prefix, ← is.1) (sym (take-append-drop 8 bytes)); rest_fits = rw (← is.1) (AreBytes-drop 8 bytes fits) }, rw (← is.0) (double_word_fits bytes fits))
 
 -- the boolean by whether the number is 0, and whether it is 1
 abbrev tested : Bool → Bool → List ℕ → Result (Bool × List ℕ) XdrFault
@@ -210,7 +210,7 @@ pub end_took : (bytes : List ℕ) (end : Unit {0}) → end_at bytes ≡ Ok end �
 unfolding end_at
 end_took bytes end e = nil_from_length bytes (eqb-true _ _ (ended (eqb (length bytes) 0) end e))
 
--- ---- one spelling stands for one value
+-- ---- one encoding stands for one value
 
 pub uint_same : (m n : ℕ) (x y : List ℕ) → m < 2 ^ 32 → n < 2 ^ 32 → uint m ++ x ≡ uint n ++ y → (m ≡ n) × (x ≡ y)
 uint_same m n x y p q e = pair_is m n x y (uint_at (uint m ++ x)) (uint_again m x p) (ap uint_at e ∙ uint_again n y q)
@@ -223,20 +223,20 @@ bool_same a b x y e = pair_is a b x y (bool_at (bool a ++ x)) (bool_again a x) (
 
 -- ---- what the code reads, the highest byte first, is the number
 
-pub word-big_number : (bytes front : List ℕ) → front ≡ take 4 bytes → big_number 4 front ≡ word bytes
+pub word-big_number : (bytes prefix : List ℕ) → prefix ≡ take 4 bytes → big_number 4 prefix ≡ word bytes
 unfolding word
-word-big_number bytes front e = rw e (omega arith)
+word-big_number bytes prefix e = rw e (omega arith)
 
-pub double_word-big_number : (bytes front : List ℕ) → front ≡ take 8 bytes → big_number 8 front ≡ double_word bytes
+pub double_word-big_number : (bytes prefix : List ℕ) → prefix ≡ take 8 bytes → big_number 8 prefix ≡ double_word bytes
 unfolding double_word
-double_word-big_number bytes front e = rw e (omega arith)
+double_word-big_number bytes prefix e = rw e (omega arith)
 
-pub uint_front : (bytes front back : List ℕ) (n : ℕ) → AreBytes bytes → 4 ≤ length bytes → front ≡ take 4 bytes → back ≡ drop 4 bytes → n ≡ big_number 4 front → bytes ≡ uint n ++ back
-uint_front bytes front back n fits long f b is =
-    let number : n ≡ word bytes = is ∙ word-big_number bytes front f in
+pub uint_prefix : (bytes prefix back : List ℕ) (n : ℕ) → AreBytes bytes → 4 ≤ length bytes → prefix ≡ take 4 bytes → back ≡ drop 4 bytes → n ≡ big_number 4 prefix → bytes ≡ uint n ++ back
+uint_prefix bytes prefix back n fits long f b is =
+    let number : n ≡ word bytes = is ∙ word-big_number bytes prefix f in
     rw (number, uint-word bytes fits long, b) (sym (take-append-drop 4 bytes))
 
-pub uhyper_front : (bytes front back : List ℕ) (n : ℕ) → AreBytes bytes → 8 ≤ length bytes → front ≡ take 8 bytes → back ≡ drop 8 bytes → n ≡ big_number 8 front → bytes ≡ uhyper n ++ back
-uhyper_front bytes front back n fits long f b is =
-    let number : n ≡ double_word bytes = is ∙ double_word-big_number bytes front f in
+pub uhyper_prefix : (bytes prefix back : List ℕ) (n : ℕ) → AreBytes bytes → 8 ≤ length bytes → prefix ≡ take 8 bytes → back ≡ drop 8 bytes → n ≡ big_number 8 prefix → bytes ≡ uhyper n ++ back
+uhyper_prefix bytes prefix back n fits long f b is =
+    let number : n ≡ double_word bytes = is ∙ double_word-big_number bytes prefix f in
     rw (number, uhyper-double_word bytes fits long, b) (sym (take-append-drop 8 bytes))

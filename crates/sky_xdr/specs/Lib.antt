@@ -1,3 +1,5 @@
-pub mod Spelling
+pub mod Encoding
 pub mod Reading
 pub mod Writing
+pub mod Grammar
+pub mod GrammarReading

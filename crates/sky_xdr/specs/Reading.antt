@@ -3,19 +3,23 @@ use Rattle.std.specs.Prelude.{◌≡◌, ℕ, ◌+◌, ◌<◌, ◌≤◌, ◌�
 use Rattle.std.specs.Int.{w32, w64, from_be_bytes}
 use Rattle.sky_xdr.specs.declared.fault.XdrFault.{XdrFault}
 use Rattle.sky_xdr.specs.declared.fault.XdrFault.TheVariants.{TooLong, Short, BadBool, Left}
-use Rattle.sky_xdr.specs.Spelling.{padding}
+use Rattle.sky_xdr.specs.Encoding.{padding}
 
 -- go on with what was read, or stay at the fault
 infixl 10 ◌>>=◌
-abbrev pub ◌>>=◌ : {A B : Type 0} → Result A XdrFault → (A → Result B XdrFault) → Result B XdrFault
+abbrev pub ◌>>=◌ : {A B E : Type 0} → Result A E → (A → Result B E) → Result B E
 (Ok x) >>= f = f x
 (Err e) >>= f = Err e
 
--- the number that the first four bytes spell, the highest first (section 4.2)
+-- reads a value with p, and goes on behind it with what k says of the value
+unfoldable pub bind : {A B : Type 0} → (List ℕ → Result (A × List ℕ) XdrFault) → (A → List ℕ → Result (B × List ℕ) XdrFault) → List ℕ → Result (B × List ℕ) XdrFault
+bind p k bytes = p bytes >>= λ x. k x.0 x.1
+
+-- the number that the first four bytes encode, the highest first (section 4.2)
 unfoldable pub word : List ℕ → ℕ
 word bytes = from_be_bytes w32 (take 4 bytes)
 
--- the number that the first eight bytes spell, the highest first (section 4.5)
+-- the number that the first eight bytes encode, the highest first (section 4.5)
 unfoldable pub double_word : List ℕ → ℕ
 double_word bytes = from_be_bytes w64 (take 8 bytes)
 
@@ -33,6 +37,10 @@ bool_at bytes = do
   n ← uint_at bytes
   if n.0 == 0 then Ok (false, n.1) else (if n.0 == 1 then Ok (true, n.1) else Err BadBool)
 
+-- reads fixed-length opaque data of n bytes, with any padding (section 4.9)
+unfoldable pub fixed_at : ℕ → List ℕ → Result (List ℕ × List ℕ) XdrFault
+fixed_at n bytes = if nat_lt (length bytes) (n + padding n) then Err Short else Ok (take n bytes, drop (n + padding n) bytes)
+
 -- reads variable-length opaque data of at most max bytes, with any padding (section 4.10)
 unfoldable pub opaque_at : ℕ → List ℕ → Result (List ℕ × List ℕ) XdrFault
 opaque_at max bytes = do
@@ -48,7 +56,7 @@ unfoldable pub end_at : List ℕ → Result (Unit {0}) XdrFault
 end_at bytes = if length bytes == 0 then Ok tt else Err Left
 
 -- what a call returned, seen by view, is what reading gives
-abbrev pub Gives : {X Y : Type 0} → (X → Y) → Result X XdrFault → Result Y XdrFault → Type 0
+abbrev pub Gives : {X Y E : Type 0} → (X → Y) → Result X E → Result Y E → Type 0
 Gives view (Ok x) read = read ≡ Ok (view x)
 Gives view (Err e) read = read ≡ Err e
 

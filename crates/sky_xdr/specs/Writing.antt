@@ -1,13 +1,14 @@
 -- What contracts see of a writer into a caller's buffer.
-use Rattle.std.specs.Prelude.{ℕ, ◌-◌, List, length, take, drop}
+use Rattle.std.specs.Prelude.{◌≡◌, ℕ, ◌+◌, ◌-◌, ◌<◌, List, ◌++◌, length, take, drop, Result, Ok, Err}
 use Rattle.std.specs.Borrow.{GName}
+use Rattle.sky_xdr.specs.declared.fault.NoRoom.{NoRoom}
 use Rattle.sky_xdr.specs.declared.writer.Writer.{Writer}
 
 -- the bytes of the whole buffer, written or not
 abbrev pub buffer_of : Writer → List ℕ
 buffer_of w = w.buffer.now
 
--- the bytes written so far, at the front of the buffer
+-- the bytes written so far, with which the buffer begins
 abbrev pub written_of : Writer → List ℕ
 written_of w = take w.place w.buffer.now
 
@@ -22,3 +23,15 @@ room_of w = length w.buffer.now - w.place
 -- which buffer it is: two writers with one name write into the same buffer
 abbrev pub name_of : Writer → GName
 name_of w = w.buffer.ghost_name
+
+-- text was written behind what was written before, and nothing else of the buffer changed
+pub record Appends (text : List ℕ) (old new : Writer) : Type 0 where
+  pub written : written_of new ≡ written_of old ++ text
+  pub unwritten : unwritten_of new ≡ drop (length text) (unwritten_of old)
+  pub room : room_of new + length text ≡ room_of old
+  pub same_buffer : name_of new ≡ name_of old
+
+-- a call wrote text, or there was no room for it
+abbrev pub Puts : {X : Type 0} → Result X NoRoom → List ℕ → Writer → Writer → Type 0
+Puts (Ok x) text old new = Appends text old new
+Puts (Err e) text old new = room_of old < length text

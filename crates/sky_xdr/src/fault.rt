@@ -9,6 +9,9 @@ pub enum XdrFault {
     Short,
     /// A boolean is neither 0 nor 1 (RFC 4506, section 4.4).
     BadBool,
+    /// A number is none of an enumeration's (RFC 4506, section 4.3). Readers of enumerations answer
+    /// it, and no call of this crate.
+    BadEnum,
     /// Bytes are left where the item was to end.
     Left,
 }

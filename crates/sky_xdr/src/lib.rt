@@ -9,7 +9,8 @@ mod reader;
 mod writer;
 
 pub use fault::{NoRoom, XdrFault};
-pub use laws::{only_spelling, read_again};
+pub use laws::{only_encoding, read_again};
+pub use padding::opaque_length;
 pub use reader::Reader;
 pub use writer::Writer;
 

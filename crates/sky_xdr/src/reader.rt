@@ -1,8 +1,8 @@
 //! Reading XDR items from borrowed bytes.
 
-ghost use Rattle.std.specs.Prelude.{◌≡◌, ◌<◌, ◌≤◌, ◌++◌, ◌↔◌, [], length, IfOk, OnErr, IsOk, IsErrOf};
-ghost use Rattle.sky_xdr.specs.Spelling.{uint, uhyper, bool, BeginsWithOpaque};
-ghost use Rattle.sky_xdr.specs.Reading.{Gives, IsCutShort, Takes, word, uint_at, uhyper_at, bool_at, opaque_at, end_at};
+ghost use Rattle.std.specs.Prelude.{◌≡◌, ◌+◌, ◌<◌, ◌≤◌, ◌++◌, ◌↔◌, [], length, IfOk, OnErr, IsOk, IsErrOf};
+ghost use Rattle.sky_xdr.specs.Encoding.{uint, uhyper, bool, BeginsWithFixed, BeginsWithOpaque, padding};
+ghost use Rattle.sky_xdr.specs.Reading.{Gives, IsCutShort, Takes, word, uint_at, uhyper_at, bool_at, fixed_at, opaque_at, end_at};
 
 use crate::fault::XdrFault;
 use crate::padding::padding_of;
@@ -33,8 +33,8 @@ fn uint_of(bytes: &[u8]) -> Result<(u32, &[u8]), XdrFault>
     if bytes.len() < 4 {
         return Err(XdrFault::Short);
     }
-    let (front, rest) = bytes.split_at(4);
-    Ok((BigEndian::read_u32(front), rest))
+    let (prefix, rest) = bytes.split_at(4);
+    Ok((BigEndian::read_u32(prefix), rest))
 }
 
 #[tactic(auto, unfolding(crate::specs::Reading::uhyper_at, crate::specs::Reading::double_word))]
@@ -45,8 +45,8 @@ fn uhyper_of(bytes: &[u8]) -> Result<(u64, &[u8]), XdrFault>
     if bytes.len() < 8 {
         return Err(XdrFault::Short);
     }
-    let (front, rest) = bytes.split_at(8);
-    Ok((BigEndian::read_u64(front), rest))
+    let (prefix, rest) = bytes.split_at(8);
+    Ok((BigEndian::read_u64(prefix), rest))
 }
 
 #[tactic(auto, unfolding(crate::specs::Reading::bool_at))]
@@ -60,6 +60,20 @@ fn bool_of(bytes: &[u8]) -> Result<(bool, &[u8]), XdrFault>
         1 => Ok((true, rest)),
         _ => Err(XdrFault::BadBool),
     }
+}
+
+#[tactic(auto, unfolding(crate::specs::Reading::fixed_at))]
+fn fixed_of(len: u32, bytes: &[u8]) -> Result<(&[u8], &[u8]), XdrFault>
+    ensures exact { Gives (λ x. (x.0.now, x.1.now)) result (fixed_at len bytes.now) }
+    ensures found { IfOk result (λ x. BeginsWithFixed bytes.now x.0.now x.1.now) }
+    ensures size { IfOk result (λ x. length x.0.now ≡ len) }
+{
+    let len = len as usize;
+    let whole = len + padding_of(len);
+    if bytes.len() < whole {
+        return Err(XdrFault::Short);
+    }
+    Ok((&bytes[..len], &bytes[whole..]))
 }
 
 #[tactic(auto, unfolding(crate::specs::Reading::opaque_at))]
@@ -123,9 +137,9 @@ impl<'a> Reader<'a> {
         Ok(number)
     }
 
-    /// Takes a boolean, four bytes that spell 0 or 1 (RFC 4506, section 4.4).
+    /// Takes a boolean, four bytes that encode 0 or 1 (RFC 4506, section 4.4).
     ///
-    /// `Short` where fewer than four bytes are left, and `BadBool` where they spell another number.
+    /// `Short` where fewer than four bytes are left, and `BadBool` where they encode another number.
     pub fn take_bool(&mut self) -> Result<bool, XdrFault>
         ensures exact { Takes (λ b. b) result self.old self.new (bool_at self.old) }
         ensures found { IfOk result (λ b. self.old ≡ bool b ++ self.new) }
@@ -134,6 +148,22 @@ impl<'a> Reader<'a> {
         ensures err { OnErr result (self.new ≡ self.old) }
     {
         let (value, rest) = bool_of(self.rest)?;
+        self.rest = rest;
+        Ok(value)
+    }
+
+    /// Takes fixed-length opaque data of `len` bytes: the bytes, and padding up to a multiple of four
+    /// (RFC 4506, section 4.9). The padding may hold any bytes.
+    ///
+    /// `Short` where bytes are missing, of the data or of the padding.
+    pub fn take_fixed(&mut self, len: u32) -> Result<&'a [u8], XdrFault>
+        ensures exact { Takes (λ v. v.now) result self.old self.new (fixed_at len self.old) }
+        ensures found { IfOk result (λ v. BeginsWithFixed self.old v.now self.new) }
+        ensures size { IfOk result (λ v. length v.now ≡ len) }
+        ensures short { IsErrOf result XdrFault.Short ↔ (length self.old < len + padding len) }
+        ensures err { OnErr result (self.new ≡ self.old) }
+    {
+        let (value, rest) = fixed_of(len, self.rest)?;
         self.rest = rest;
         Ok(value)
     }

@@ -1,5 +1,7 @@
+//! Tests of the reader and the writer.
+
 ghost use Rattle.std.specs.Prelude.{◌≡◌, ◌+◌, ◌^◌, ◌<◌, ◌≤◌, ◌++◌, ◌↔◌, length, take, drop, IsOk, IfOk};
-ghost use Rattle.sky_xdr.specs.Spelling.{uint, opaque};
+ghost use Rattle.sky_xdr.specs.Encoding.{uint, opaque};
 
 use super::*;
 use std::test::Fail;
@@ -14,7 +16,7 @@ const EXAMPLE: [u8; 48] = [
 // A caller of the writer: what its buffer holds once the writer is gone, and what stays.
 fn write_letter(buf: &mut [u8], number: u32, text: &[u8]) -> Result<usize, NoRoom>
     requires { length text.now < 2 ^ 32 }
-    ensures front { IfOk result (λ count. take count buf.new ≡ uint number ++ opaque text.now) }
+    ensures prefix { IfOk result (λ count. take count buf.new ≡ uint number ++ opaque text.now) }
     ensures behind { IfOk result (λ count. drop count buf.new ≡ drop count buf.old) }
     ensures fits { IsOk result ↔ (4 + length (opaque text.now) ≤ length buf.old) }
 {
@@ -85,6 +87,23 @@ fn opaque_data(rt: HostRuntime) {
 }
 
 #[test]
+fn fixed_data(rt: HostRuntime) {
+    let mut buf = [9u8; 12];
+    let mut writer = Writer::over(&mut buf);
+    assert_eq!(rt; writer.put_fixed(b"lisp"), Ok(()));
+    assert_eq!(rt; writer.put_fixed(b"quits"), Ok(()));
+    assert_eq!(rt; writer.put_fixed(b"a"), Err(NoRoom));
+    assert!(rt; &buf == b"lispquits\0\0\0");
+    // The padding may hold any bytes.
+    let mut reader = Reader::over(b"lispquitsabc");
+    assert_eq!(rt; reader.take_fixed(4), Ok(b"lisp".as_slice()));
+    assert_eq!(rt; reader.take_fixed(5), Ok(b"quits".as_slice()));
+    assert_eq!(rt; reader.end(), Ok(()));
+    assert_eq!(rt; Reader::over(b"quits").take_fixed(5), Err(XdrFault::Short));
+    assert_eq!(rt; opaque_length(b"quits"), 12);
+}
+
+#[test]
 fn faults(rt: HostRuntime) {
     let bytes = [0, 0, 0, 2, 0, 0, 0];
     let mut reader = Reader::over(&bytes);
@@ -98,6 +117,7 @@ fn faults(rt: HostRuntime) {
 #[test]
 fn a_letter(rt: HostRuntime) {
     let mut buf = [9u8; 16];
+    assert_eq!(rt; opaque_length(b"abcde"), 12);
     assert_eq!(rt; write_letter(&mut buf[..11], 7, b"abcde"), Err(NoRoom));
     assert_eq!(rt; write_letter(&mut buf, 7, b"hi"), Ok(12));
     assert!(rt; buf == [0, 0, 0, 7, 0, 0, 0, 2, 104, 105, 0, 0, 9, 9, 9, 9]);

@@ -1,13 +1,13 @@
 //! Writing XDR items into a caller's buffer.
 
 ghost use Rattle.std.specs.Prelude.{◌≡◌, ◌+◌, ◌^◌, ◌<◌, ◌≤◌, ◌++◌, ◌↔◌, [], length, take, drop, replicate, IsOk, OnOk, OnErr};
-ghost use Rattle.sky_xdr.specs.Spelling.{padding, uint, uhyper, bool, opaque};
+ghost use Rattle.sky_xdr.specs.Encoding.{padding, uint, uhyper, bool, fixed, opaque};
 
 use crate::fault::NoRoom;
 use crate::padding::padding_of;
 use byteorder::{BigEndian, ByteOrder};
 
-/// Writes XDR items one after the other to the front of a caller's buffer. A call for which there
+/// Writes XDR items one after the other to the start of a caller's buffer. A call for which there
 /// is no room writes nothing.
 #[derive(Drop)]
 pub struct Writer<'a> {
@@ -16,7 +16,7 @@ pub struct Writer<'a> {
     ghost in_buffer: { place ≤ length buffer.now },
 }
 
-#[tactic(auto, unfolding(crate::specs::Spelling::uint))]
+#[tactic(auto, unfolding(crate::specs::Encoding::uint))]
 fn write_uint(out: &mut [u8], v: u32)
     requires { 4 ≤ length out.old }
     ensures { out.new ≡ uint v ++ drop 4 out.old }
@@ -24,7 +24,7 @@ fn write_uint(out: &mut [u8], v: u32)
     BigEndian::write_u32(out, v);
 }
 
-#[tactic(auto, unfolding(crate::specs::Spelling::uhyper))]
+#[tactic(auto, unfolding(crate::specs::Encoding::uhyper))]
 fn write_uhyper(out: &mut [u8], v: u64)
     requires { 8 ≤ length out.old }
     ensures { out.new ≡ uhyper v ++ drop 8 out.old }
@@ -46,6 +46,14 @@ fn write_zeros(out: &mut [u8], count: usize)
     out[..count].fill(0);
 }
 
+fn write_fixed(out: &mut [u8], v: &[u8])
+    requires { length v.now + padding (length v.now) ≤ length out.old }
+    ensures { out.new ≡ fixed v.now ++ drop (length v.now + padding (length v.now)) out.old }
+{
+    write_bytes(out, v);
+    write_zeros(&mut out[v.len()..], padding_of(v.len()));
+}
+
 fn write_opaque(out: &mut [u8], v: &[u8])
     requires short { length v.now < 2 ^ 32 }
     requires room { 4 + length v.now + padding (length v.now) ≤ length out.old }
@@ -57,9 +65,9 @@ fn write_opaque(out: &mut [u8], v: &[u8])
 }
 
 impl<'a> Writer<'a> {
-    ghost use Rattle.sky_xdr.specs.Writing.{buffer_of, written_of, unwritten_of, room_of, name_of};
+    ghost use Rattle.sky_xdr.specs.Writing.{Puts, buffer_of, written_of, unwritten_of, room_of, name_of};
 
-    /// A writer at the front of the buffer.
+    /// A writer at the start of the buffer.
     pub fn over(buf: &'a mut [u8]) -> Writer<'a>
         ensures written { written_of result ≡ [] }
         ensures unwritten { unwritten_of result ≡ buf.old }
@@ -75,7 +83,7 @@ impl<'a> Writer<'a> {
     /// How many bytes were written so far.
     pub fn written(&self) -> usize
         ensures count { result ≡ length (written_of self.now) }
-        ensures front { written_of self.now ≡ take result (buffer_of self.now) }
+        ensures prefix { written_of self.now ≡ take result (buffer_of self.now) }
     {
         self.place
     }
@@ -90,6 +98,8 @@ impl<'a> Writer<'a> {
         ensures room { OnOk result (room_of self.new + 4 ≡ room_of self.old) }
         ensures err { OnErr result (self.new ≡ self.old) }
         ensures same_buffer { name_of self.new ≡ name_of self.old }
+        // The same in one fact, for writers that are put together.
+        ensures puts { Puts result (uint v) self.old self.new }
     {
         if self.buffer.len() - self.place < 4 {
             return Err(NoRoom);
@@ -109,6 +119,8 @@ impl<'a> Writer<'a> {
         ensures room { OnOk result (room_of self.new + 8 ≡ room_of self.old) }
         ensures err { OnErr result (self.new ≡ self.old) }
         ensures same_buffer { name_of self.new ≡ name_of self.old }
+        // The same in one fact, for writers that are put together.
+        ensures puts { Puts result (uhyper v) self.old self.new }
     {
         if self.buffer.len() - self.place < 8 {
             return Err(NoRoom);
@@ -118,7 +130,7 @@ impl<'a> Writer<'a> {
         Ok(())
     }
 
-    /// Writes a boolean, four bytes that spell 0 or 1 (RFC 4506, section 4.4).
+    /// Writes a boolean, four bytes that encode 0 or 1 (RFC 4506, section 4.4).
     ///
     /// `NoRoom` where fewer than four bytes are left in the buffer.
     pub fn put_bool(&mut self, v: bool) -> Result<(), NoRoom>
@@ -128,8 +140,34 @@ impl<'a> Writer<'a> {
         ensures room { OnOk result (room_of self.new + 4 ≡ room_of self.old) }
         ensures err { OnErr result (self.new ≡ self.old) }
         ensures same_buffer { name_of self.new ≡ name_of self.old }
+        // The same in one fact, for writers that are put together.
+        ensures puts { Puts result (bool v) self.old self.new }
     {
         self.put_u32(u32::from(v))
+    }
+
+    /// Writes fixed-length opaque data: the bytes, and zeros up to a multiple of four (RFC 4506,
+    /// section 4.9).
+    ///
+    /// `NoRoom` where all of that does not fit into what is left of the buffer.
+    pub fn put_fixed(&mut self, v: &[u8]) -> Result<(), NoRoom>
+        ensures fits { IsOk result ↔ (length (fixed v.now) ≤ room_of self.old) }
+        ensures written { OnOk result (written_of self.new ≡ written_of self.old ++ fixed v.now) }
+        ensures unwritten { OnOk result
+            (unwritten_of self.new ≡ drop (length (fixed v.now)) (unwritten_of self.old)) }
+        ensures room { OnOk result (room_of self.new + length (fixed v.now) ≡ room_of self.old) }
+        ensures err { OnErr result (self.new ≡ self.old) }
+        ensures same_buffer { name_of self.new ≡ name_of self.old }
+        // The same in one fact, for writers that are put together.
+        ensures puts { Puts result (fixed v.now) self.old self.new }
+    {
+        let whole = v.len() + padding_of(v.len());
+        if self.buffer.len() - self.place < whole {
+            return Err(NoRoom);
+        }
+        write_fixed(&mut self.buffer[self.place..], v);
+        self.place += whole;
+        Ok(())
     }
 
     /// Writes variable-length opaque data: its length, the bytes, and zeros up to a multiple of
@@ -145,6 +183,8 @@ impl<'a> Writer<'a> {
         ensures room { OnOk result (room_of self.new + length (opaque v.now) ≡ room_of self.old) }
         ensures err { OnErr result (self.new ≡ self.old) }
         ensures same_buffer { name_of self.new ≡ name_of self.old }
+        // The same in one fact, for writers that are put together.
+        ensures puts { Puts result (opaque v.now) self.old self.new }
     {
         let size = 4 + v.len() + padding_of(v.len());
         if self.buffer.len() - self.place < size {

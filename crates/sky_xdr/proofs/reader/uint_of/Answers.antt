@@ -1,6 +1,6 @@
 use Rattle.std.proofs.Common.{arith}
-use Rattle.sky_xdr.proofs.Numbers.{uint_front}
+use Rattle.sky_xdr.proofs.Numbers.{uint_prefix}
 use Rattle.sky_xdr.proofs.reader.uint_of.Goals as goal
 
 pub returns-clause-found : goal.returns-clause-found
-returns-clause-found c = uint_front _ _ _ _ (λ i. omega (arith, c.type_inv.bytes i)) c.if-bytes-lt4.false c.split_at.ensures.front c.split_at.ensures.back c.read_u32.ensures
+returns-clause-found c = uint_prefix _ _ _ _ (λ i. omega (arith, c.type_inv.bytes i)) c.if-bytes-lt4.false c.split_at.ensures.front c.split_at.ensures.back c.read_u32.ensures
