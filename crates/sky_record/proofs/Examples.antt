@@ -1,6 +1,6 @@
 -- The definitions on small known bytes.
 use Rattle.std.proofs.Common.{◌≡◌, true, false, List, [], ◌∷◌, refl}
-use Rattle.sky_record.specs.Record.{Fragment, header, spelling, joined, IsWhole}
+use Rattle.sky_record.specs.Record.{Fragment, header, encoding, joined, IsWhole}
 
 -- 80000028: the last fragment, of 40 bytes
 header-last_40 : header true 40 ≡ 0x80 ∷ 0 ∷ 0 ∷ 0x28 ∷ []
@@ -22,8 +22,8 @@ hi =
     ∷ record { last = true; bytes = 33 ∷ [] }
     ∷ []
 
-spelling-hi : spelling hi ≡ 0 ∷ 0 ∷ 0 ∷ 2 ∷ 104 ∷ 105 ∷ 0 ∷ 0 ∷ 0 ∷ 0 ∷ 0x80 ∷ 0 ∷ 0 ∷ 1 ∷ 33 ∷ []
-spelling-hi = refl
+encoding-hi : encoding hi ≡ 0 ∷ 0 ∷ 0 ∷ 2 ∷ 104 ∷ 105 ∷ 0 ∷ 0 ∷ 0 ∷ 0 ∷ 0x80 ∷ 0 ∷ 0 ∷ 1 ∷ 33 ∷ []
+encoding-hi = refl
 
 joined-hi : joined hi ≡ 104 ∷ 105 ∷ 33 ∷ []
 joined-hi = refl
@@ -32,5 +32,5 @@ hi_is_whole : IsWhole hi
 hi_is_whole = (refl, (refl, refl))
 
 -- an empty record
-spelling-empty : spelling (record { last = true; bytes = [] } ∷ []) ≡ 0x80 ∷ 0 ∷ 0 ∷ 0 ∷ []
-spelling-empty = refl
+encoding-empty : encoding (record { last = true; bytes = [] } ∷ []) ≡ 0x80 ∷ 0 ∷ 0 ∷ 0 ∷ []
+encoding-empty = refl

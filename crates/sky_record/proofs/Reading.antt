@@ -3,15 +3,15 @@ use Rattle.std.proofs.Common.{◌≡◌, ℕ, ◌+◌, ◌-◌, ◌%◌, ◌^◌
 use Rattle.std.specs.List.{flat_map, AllByRecursion}
 use Rattle.std.specs.Int.{w32, from_be_bytes}
 use Rattle.std.proofs.lemmas.Bool.{cond_both}
-use Rattle.std.proofs.lemmas.List.{append-nil, length-append}
-use Rattle.sky_record.specs.declared.TheConstants.{RECORD_LIMIT}
+use Rattle.std.proofs.lemmas.List.{append-nil, append_cancel_left, length-append}
+use Rattle.sky_base.specs.Limits.{max_record_bytes}
 use Rattle.sky_record.specs.declared.assembler.Fed.{Fed}
 use Rattle.sky_record.specs.declared.assembler.Fed.TheVariants as fed
-use Rattle.sky_record.specs.Record.{Fragment, spelling, joined, IsWhole, IsRecord}
-use Rattle.sky_record.specs.Stream.{Progress, AtHeader, InFragment, Whole, TooLong, Received, nothing, IsOpen, IsSoFar, Comes, Ends, Reads}
+use Rattle.sky_record.specs.Record.{Fragment, encoding, joined, IsWhole, IsRecord}
+use Rattle.sky_record.specs.Stream.{Progress, AtHeader, InFragment, Whole, TooLong, Received, nothing, IsOpen, IsSoFar, Comes, Ends, Reads, Completes}
 use Rattle.sky_record.specs.Parts.{with_due, with_header}
 use Rattle.sky_record.specs.Feeding.{answer_at, FedReads}
-use Rattle.sky_record.proofs.Sound.{IsBytes, IsBytes-one, IsBytes-append, no_front, header_goes_on, fragment_goes_on}
+use Rattle.sky_record.proofs.Sound.{IsBytes, IsBytes-one, IsBytes-append, no_prefix, header_goes_on, fragment_goes_on}
 use Rattle.sky_record.proofs.Machine.{one_received, nothing_after}
 
 abbrev received : List ℕ → Progress → Received
@@ -99,7 +99,7 @@ one_reading stream (a ∷ records) (b ∷ others) end other p q =
 -- ---- a reading goes on
 
 pub reads_nothing : Reads [] [] nothing
-reads_nothing = record { front = []; is_front = no_front; text_is = refl; short = omega arith }
+reads_nothing = record { prefix = []; is_prefix = no_prefix; text_is = refl; short = omega arith }
 
 open_end : (stream bytes : List ℕ) (progress : Progress) → Ends stream bytes progress → IsOpen progress → IsSoFar stream bytes progress
 open_end stream bytes (AtHeader part) h o = h
@@ -154,8 +154,8 @@ with_header_fits had part fits =
     let word : ℕ = from_be_bytes w32 part in
     let size : ℕ = word % 2 ^ 31 in
     let last : Bool = leb (2 ^ 31) word in
-    cond_both (ltb (length part) 4) (AtHeader part) (cond (ltb RECORD_LIMIT (had + size)) TooLong (with_due last size)) PartFits (λ _. fits)
-    (λ _. cond_both (ltb RECORD_LIMIT (had + size)) TooLong (with_due last size) PartFits (λ _. tt) (λ _. with_due_fits last size))
+    cond_both (ltb (length part) 4) (AtHeader part) (cond (ltb max_record_bytes (had + size)) TooLong (with_due last size)) PartFits (λ _. fits)
+    (λ _. cond_both (ltb max_record_bytes (had + size)) TooLong (with_due last size) PartFits (λ _. tt) (λ _. with_due_fits last size))
 
 reading_of : (stream : List ℕ) (records : List (List ℕ)) (bytes : List ℕ) (progress : Progress) → FedReads (answer_at progress) stream records (received bytes progress) → PartFits progress → HasReading stream
 unfolding PartFits
@@ -209,10 +209,10 @@ has_reading stream fits =
 
 -- ---- records that were cut into fragments in any way
 
-pub cut_reads : (cuts : List (List Fragment)) → AllByRecursion (λ cut. IsWhole cut × (length (joined cut) ≤ RECORD_LIMIT)) cuts → Reads (flat_map spelling cuts) (map joined cuts) nothing
+pub cut_reads : (cuts : List (List Fragment)) → AllByRecursion (λ cut. IsWhole cut × (length (joined cut) ≤ max_record_bytes)) cuts → Reads (flat_map encoding cuts) (map joined cuts) nothing
 cut_reads [] h = reads_nothing
 cut_reads (cut ∷ cuts) h =
-    (spelling cut, flat_map spelling cuts, refl, record { fragments = cut; whole = h.0.0; spelled = refl; joins = refl; within = h.0.1 }, cut_reads cuts h.1)
+    (encoding cut, flat_map encoding cuts, refl, record { fragments = cut; whole = h.0.0; encoded = refl; joins = refl; within = h.0.1 }, cut_reads cuts h.1)
 
 -- ---- a part of a record
 
@@ -234,3 +234,37 @@ pub part_reads : (text more bytes : List ℕ) → AllByRecursion (λ b. b < 256)
 part_reads text more bytes fits some h =
     let r = has_reading text fits in
     part_reading text more bytes r.0 r.1 some h r.2
+
+-- ---- a stream that goes on
+
+-- the records of a stream stay where it goes on
+pub records_stay : (stream more : List ℕ) (records all : List (List ℕ)) (end last : Received) → Reads stream records end → Reads (stream ++ more) all last → (later : List (List ℕ)) × (all ≡ records ++ later)
+records_stay stream more [] all end last p q = (all, refl)
+records_stay stream more (first ∷ records) [] end last p q =
+    let e : stream ++ more ≡ p.0 ++ (p.1 ++ more) = ap (λ (t : List ℕ). t ++ more) p.2 ∙ append_assoc p.0 p.1 more in
+    absurd (stop_is_no_record (stream ++ more) last p.0 (p.1 ++ more) first (stop_of (stream ++ more) last.bytes last.progress q) e p.3)
+records_stay stream more (first ∷ records) (other ∷ all) end last p q =
+    let e : stream ++ more ≡ p.0 ++ (p.1 ++ more) = ap (λ (t : List ℕ). t ++ more) p.2 ∙ append_assoc p.0 p.1 more in
+    let one = one_text p.0 (p.1 ++ more) q.0 q.1 (received first Whole) (received other Whole) p.3 q.3 (sym e ∙ q.2) (λ o. absurd o) (λ o. absurd o) in
+    let rest = records_stay p.1 more records all end last p.4 (subst (λ (t : List ℕ). Reads t all last) (sym one.2) q.4) in
+    let heads : first ≡ other = ap (λ (r : Received). r.bytes) one.1 in
+    (rest.0, ap (λ (t : List (List ℕ)). other ∷ t) rest.1 ∙ ap (λ (t : List ℕ). t ∷ (records ++ rest.0)) (sym heads))
+
+bytes-append : (xs ys : List ℕ) → AllByRecursion (λ b. b < 256) xs → AllByRecursion (λ b. b < 256) ys → AllByRecursion (λ b. b < 256) (xs ++ ys)
+bytes-append [] ys p q = q
+bytes-append (x ∷ xs) ys p q = (p.0, bytes-append xs ys p.1 q)
+
+-- each piece of bytes completes some records
+pub completes_some : (stream piece : List ℕ) → AllByRecursion (λ b. b < 256) stream → AllByRecursion (λ b. b < 256) piece → (records : List (List ℕ)) × (end : Received) × Completes stream piece records end
+completes_some stream piece fits more =
+    let old = has_reading stream fits in
+    let new = has_reading (stream ++ piece) (bytes-append stream piece fits more) in
+    let later = records_stay stream piece old.0 new.0 old.1 new.1 old.2 new.2 in
+    (later.0, new.1, record { before = old.0; part = old.1; read = old.2; goes_on = subst (λ (t : List (List ℕ)). Reads (stream ++ piece) t new.1) later.1 new.2 })
+
+-- and no others
+pub completes_one : (stream piece : List ℕ) (records others : List (List ℕ)) (end other : Received) → Completes stream piece records end → Completes stream piece others other → (records ≡ others) × (end ≡ other)
+completes_one stream piece records others end other p q =
+    let before : p.before ≡ q.before = (one_reading stream p.before q.before p.part q.part p.read q.read).0 in
+    let all = one_reading (stream ++ piece) (p.before ++ records) (q.before ++ others) end other p.goes_on q.goes_on in
+    (append_cancel_left q.before records others (ap (λ (t : List (List ℕ)). t ++ records) (sym before) ∙ all.0), all.1)

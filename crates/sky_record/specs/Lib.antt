@@ -1,5 +1,7 @@
+pub mod Feeding
+pub mod Inside
+pub mod Parts
 pub mod Record
 pub mod Stream
-pub mod Parts
-pub mod Inside
-pub mod Feeding
+-- the limit of a record
+pub use Rattle.sky_base.specs.Limits

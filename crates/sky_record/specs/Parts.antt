@@ -1,7 +1,7 @@
 -- How far a record has come behind a header, or behind some bytes of a fragment, and what an assembler's state says of it.
 use Rattle.std.specs.Prelude.{ℕ, ◌+◌, ◌%◌, ◌^◌, ◌<◌, ◌≤◌, Bool, List, [], length, take, nat_lt, nat_le, if◌then◌else◌}
 use Rattle.std.specs.Int.{w32, from_be_bytes}
-use Rattle.sky_record.specs.declared.TheConstants.{RECORD_LIMIT}
+use Rattle.sky_base.specs.Limits.{max_record_bytes}
 use Rattle.sky_record.specs.declared.assembler.State.{State}
 use Rattle.sky_record.specs.declared.assembler.State.TheVariants as state
 use Rattle.sky_record.specs.Stream.{Progress, AtHeader, InFragment, Whole, TooLong}
@@ -15,7 +15,7 @@ abbrev pub with_header : ℕ → List ℕ → Progress
 with_header had part =
     let word = from_be_bytes w32 part in
     let size = word % 2 ^ 31 in
-    if nat_lt (length part) 4 then AtHeader part else (if nat_lt RECORD_LIMIT (had + size) then TooLong else with_due (nat_le (2 ^ 31) word) size)
+    if nat_lt (length part) 4 then AtHeader part else (if nat_lt max_record_bytes (had + size) then TooLong else with_due (nat_le (2 ^ 31) word) size)
 
 -- what an assembler's state says, with the bytes of its header
 abbrev pub progress_of : List ℕ → State → Progress
@@ -26,7 +26,7 @@ progress_of header state.TooLong = TooLong
 
 -- what a state keeps to, behind so many bytes of the record
 abbrev pub StateFits : ℕ → State → Type 0
-StateFits had (state.Header count) = (count < 4) × (had ≤ RECORD_LIMIT)
-StateFits had (state.Fragment last due) = (0 < due) × (had + due ≤ RECORD_LIMIT)
-StateFits had state.Message = had ≤ RECORD_LIMIT
-StateFits had state.TooLong = had ≤ RECORD_LIMIT
+StateFits had (state.Header count) = (count < 4) × (had ≤ max_record_bytes)
+StateFits had (state.Fragment last due) = (0 < due) × (had + due ≤ max_record_bytes)
+StateFits had state.Message = had ≤ max_record_bytes
+StateFits had state.TooLong = had ≤ max_record_bytes

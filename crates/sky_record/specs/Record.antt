@@ -2,7 +2,7 @@
 use Rattle.std.specs.Prelude.{◌≡◌, ℕ, ◌+◌, ◌^◌, ◌≤◌, Bool, true, false, List, [], ◌∷◌, ◌++◌, length, if◌then◌else◌}
 use Rattle.std.specs.List.{flat_map, AllByRecursion}
 use Rattle.std.specs.Int.{w32, to_be_bytes}
-use Rattle.sky_record.specs.declared.TheConstants.{RECORD_LIMIT}
+use Rattle.sky_base.specs.Limits.{max_record_bytes}
 
 -- a fragment: whether it is the last of its record, and its bytes
 pub record Fragment : Type 0 where
@@ -18,8 +18,8 @@ abbrev pub fragment : Fragment → List ℕ
 fragment f = header f.last (length f.bytes) ++ f.bytes
 
 -- fragments on the stream, one after the other
-abbrev pub spelling : List Fragment → List ℕ
-spelling fragments = flat_map fragment fragments
+abbrev pub encoding : List Fragment → List ℕ
+encoding fragments = flat_map fragment fragments
 
 -- the bytes of fragments, joined
 abbrev pub joined : List Fragment → List ℕ
@@ -39,14 +39,14 @@ IsWhole (f ∷ g ∷ others) = (f.last ≡ false) × IsWhole (g ∷ others)
 pub record IsRecord (text bytes : List ℕ) : Type 0 where
   pub fragments : List Fragment
   pub whole : IsWhole fragments
-  pub spelled : text ≡ spelling fragments
+  pub encoded : text ≡ encoding fragments
   pub joins : bytes ≡ joined fragments
-  pub within : length bytes ≤ RECORD_LIMIT
+  pub within : length bytes ≤ max_record_bytes
 
 -- The text is fragments of a record that goes on after them, and these bytes are theirs.
-pub record IsFront (text bytes : List ℕ) : Type 0 where
+pub record IsRecordPrefix (text bytes : List ℕ) : Type 0 where
   pub fragments : List Fragment
   pub none_last : NoneLast fragments
-  pub spelled : text ≡ spelling fragments
+  pub encoded : text ≡ encoding fragments
   pub joins : bytes ≡ joined fragments
-  pub within : length bytes ≤ RECORD_LIMIT
+  pub within : length bytes ≤ max_record_bytes

@@ -1,7 +1,8 @@
 //! Assembling records from the pieces of a stream.
 
-ghost use Rattle.std.specs.Prelude.{◌≡◌, ℕ, ◌+◌, ◌-◌, ◌<◌, ◌≤◌, ◌↔◌, List, [], ◌++◌, ◌^◌, length, take, min, slice_index, IfOk, IsTrue, vec_len};
+ghost use Rattle.std.specs.Prelude.{◌≡◌, ℕ, ◌+◌, ◌-◌, ◌<◌, ◌≤◌, ◌↔◌, List, [], ◌++◌, length, take, min, slice_index, IfOk, IsTrue, vec_len};
 ghost use Rattle.std.specs.Vec.{vec_capacity};
+ghost use Rattle.sky_base.specs.Limits.{max_record_bytes};
 ghost use Rattle.sky_record.specs.Record.{IsRecord};
 ghost use Rattle.sky_record.specs.Stream.{Received, Whole, TooLong, nothing, IsOpen, Comes, StopsTooLong, Reads};
 ghost use Rattle.sky_record.specs.Feeding.{answer_at, FedReads};
@@ -24,7 +25,7 @@ const HEADER_SIZE: usize = 4;
 pub enum Fed {
     /// The bytes that were taken end a record. It is the message until the assembler is cleared.
     Message,
-    /// The whole piece was taken, and no record ended.
+    /// All bytes of the piece were taken, and none of them ended a record.
     More,
     /// The bytes that were taken end a header at which the record passes `RECORD_LIMIT`. None of that fragment's bytes
     /// was looked at, and the stream cannot be read further.
@@ -47,7 +48,7 @@ enum State {
 /// How far a record is with so many bytes of a fragment due.
 fn with_due(last: bool, due: usize) -> State
     ensures state { (header : List ℕ) → progress_of header result ≡ spec.with_due last due }
-    ensures fits { (had : ℕ) → had + due ≤ RECORD_LIMIT → StateFits had result }
+    ensures fits { (had : ℕ) → had + due ≤ max_record_bytes → StateFits had result }
 {
     if due > 0 {
         State::Fragment { last, due }
@@ -60,7 +61,7 @@ fn with_due(last: bool, due: usize) -> State
 
 /// How far a record is at the end of a header, with so many bytes of the record before it.
 fn with_header(header: &[u8; HEADER_SIZE], had: usize) -> State
-    requires { had ≤ RECORD_LIMIT }
+    requires { had ≤ max_record_bytes }
     ensures state { progress_of header.now result ≡ spec.with_header had header.now }
     ensures fits { StateFits had result }
 {
@@ -81,7 +82,7 @@ fn take_header(
     piece: &[u8],
 ) -> (State, usize)
     requires part { count < 4 }
-    requires within { had ≤ RECORD_LIMIT }
+    requires within { had ≤ max_record_bytes }
     ensures taken { result.1 ≡ min (4 - count) (length piece.now) }
     ensures header { (i : ℕ) → slice_index header.old i < 256 }
     ensures state { progress_of header.new result.0 ≡ spec.with_header had (take count header.old ++ take result.1 piece.now) }
@@ -99,7 +100,7 @@ fn take_header(
 /// that took.
 fn take_fragment(bytes: &mut Vec<u8>, last: bool, due: usize, piece: &[u8]) -> (State, usize)
     requires room { vec_len bytes.old + due ≤ vec_capacity bytes.old }
-    requires within { vec_len bytes.old + due ≤ RECORD_LIMIT }
+    requires within { vec_len bytes.old + due ≤ max_record_bytes }
     ensures taken { result.1 ≡ min due (length piece.now) }
     ensures bytes { bytes.new.items ≡ bytes.old.items ++ take result.1 piece.now }
     ensures room { vec_capacity bytes.old ≤ vec_capacity bytes.new }
@@ -115,7 +116,8 @@ fn take_fragment(bytes: &mut Vec<u8>, last: bool, due: usize, piece: &[u8]) -> (
 /// comes. A piece may end anywhere, within a header too.
 ///
 /// A fragment is a header of four bytes and the fragment's bytes: the header's highest bit marks the last fragment of a
-/// record, and its other 31 bits are the length. A record is the joined bytes of its fragments, at most `RECORD_LIMIT`.
+/// record, and its other 31 bits are the length. A record is its fragments' bytes, one fragment's after the other's, and
+/// at most `RECORD_LIMIT` of them.
 /// Any fragment may be empty, the last one too.
 ///
 /// Room for the longest record is reserved when the assembler is made, and nothing else takes memory. Each byte of a
@@ -215,7 +217,7 @@ impl Assembler {
         }
     }
 
-    /// Takes bytes from the front of a piece: up to the end of the record under way, up to the header at which it passes
+    /// Takes bytes from the start of a piece: up to the end of the record under way, up to the header at which it passes
     /// `RECORD_LIMIT`, or else all of them. Answers how many it took. It costs what these bytes cost, and no memory.
     pub fn feed(&mut self, piece: &[u8]) -> (usize, Fed)
         requires ready { IsOpen self.old.progress }

@@ -6,7 +6,9 @@ mod laws;
 mod stream;
 
 pub use assembler::{Assembler, Fed};
-pub use laws::each_stream_has_one_reading;
+pub use laws::{
+    each_piece_completes_its_records, each_stream_has_one_reading, limit_is_as_defined,
+};
 pub use stream::assemble;
 
 /// The most bytes that a record may have, without its headers: 131,072.

@@ -1,3 +1,5 @@
+//! Tests of records.
+
 ghost use Rattle.std.specs.Prelude.{◌<◌};
 
 use super::*;
