@@ -6,14 +6,14 @@ use Rattle.std.specs.Str.{bytes_eq}
 use Rattle.std.proofs.lemmas.Bool.{and_parts, and_from, eq-eqb, ltb-false, leb-false, le-leb, not-false, false≢true}
 use Rattle.std.proofs.lemmas.List.Folds.{list_all-append}
 use Rattle.std.proofs.lemmas.List.Sums.{sum_by-append}
-use Rattle.sky_base.specs.Limits.{name_most, directory_most, cookie_most, file_most, text_most}
+use Rattle.sky_base.specs.Limits.{max_name_bytes, max_directory_bytes, max_cookie, max_file_bytes, max_link_text_bytes}
 use Rattle.sky_base.specs.Listing.{Listing, Entry, with_entry, fileid_at, new_listing, size_of_listing, size_of_name}
 use Rattle.sky_base.specs.declared.cred.Cred.{Cred}
 use Rattle.sky_base.specs.declared.moment.Moment.{Moment}
-use Rattle.sky_nfs.specs.declared.call.At.{At}
+use Rattle.sky_nfs.specs.declared.call.DirOpArgs.{DirOpArgs}
 use Rattle.sky_nfs.specs.declared.call.Call.{Call}
-use Rattle.sky_nfs.specs.declared.call.How.{How}
-use Rattle.sky_nfs.specs.declared.call.How.TheVariants.{Unchecked, Guarded, Exclusive}
+use Rattle.sky_nfs.specs.declared.call.CreateHow.{CreateHow}
+use Rattle.sky_nfs.specs.declared.call.CreateHow.TheVariants.{Unchecked, Guarded, Exclusive}
 use Rattle.sky_nfs.specs.declared.call.SetAttr.{SetAttr}
 use Rattle.sky_nfs.specs.Changes.{put, edit, resized, with_listing, with_size, stamp, add_link, enter, add_node, new_node, grow}
 use Rattle.sky_nfs.specs.Handles.{fileid_in}
@@ -22,39 +22,39 @@ use Rattle.sky_nfs.specs.Procedure.{refusal_of, rules_of, changed_tree}
 use Rattle.sky_nfs.specs.Procedures.Create.{create_rules, create_tree, taken_rules, taken_tree, unchecked_size, new_file, set_by}
 use Rattle.sky_nfs.specs.Procedures.Mkdir.{mkdir_rules, mkdir_tree, symlink_rules, symlink_tree}
 use Rattle.sky_nfs.specs.Rules.{is_too_big, new_room_rules}
-use Rattle.sky_nfs.specs.Tree.{Tree, Node, Content, File, Folder, Link, node_at, with_node, the_node, no_node, is_folder, folder_test, folder_parent, folder_listing, listing_of, parent_of, named}
+use Rattle.sky_nfs.specs.Tree.{Tree, Node, Content, File, Directory, Link, node_at, with_node, the_node, no_node, is_directory, directory_test, directory_parent, directory_listing, listing_of, parent_of, named}
 use Rattle.sky_nfs.specs.Validity.{IsValidTree, is_within}
 use Rattle.sky_nfs.proofs.ValidityLemmas.{put_valid, each-node_at}
 use Rattle.sky_nfs.proofs.KeptLemmas.{AllPassed, passed, is_there, kept, with_size-shape, with_size-within, mode_within, length-resized}
 use Rattle.sky_nfs.proofs.GrowLemmas.{Entering, grown_valid, mid_at, node_at-with_node, some_of, each_entry, entries}
 
 -- a directory with another listing
-pub folder-with_listing : (f : Listing → Listing) (c : Content) → folder_test c ≡ true → folder_test (with_listing f c) ≡ true
-folder-with_listing f (File bytes) e = e
-folder-with_listing f (Folder parent listing) e = refl
-folder-with_listing f (Link text) e = e
+pub directory-with_listing : (f : Listing → Listing) (c : Content) → directory_test c ≡ true → directory_test (with_listing f c) ≡ true
+directory-with_listing f (File bytes) e = e
+directory-with_listing f (Directory parent listing) e = refl
+directory-with_listing f (Link text) e = e
 
-pub parent-with_listing : (f : Listing → Listing) (c : Content) → folder_parent (with_listing f c) ≡ folder_parent c
+pub parent-with_listing : (f : Listing → Listing) (c : Content) → directory_parent (with_listing f c) ≡ directory_parent c
 parent-with_listing f (File bytes) = refl
-parent-with_listing f (Folder parent listing) = refl
+parent-with_listing f (Directory parent listing) = refl
 parent-with_listing f (Link text) = refl
 
-pub listing-with_listing : (f : Listing → Listing) (c : Content) → folder_test c ≡ true → folder_listing (with_listing f c) ≡ f (folder_listing c)
+pub listing-with_listing : (f : Listing → Listing) (c : Content) → directory_test c ≡ true → directory_listing (with_listing f c) ≡ f (directory_listing c)
 listing-with_listing f (File bytes) e = absurd (cc)
-listing-with_listing f (Folder parent listing) e = refl
+listing-with_listing f (Directory parent listing) e = refl
 listing-with_listing f (Link text) e = absurd (cc)
 
 -- one more entry within the limits
-pub within-with_entry : (c : Content) (name : List ℕ) (fileid : ℕ) → folder_test c ≡ true → is_within c ≡ true → length name ≤ name_most → size_of_listing (folder_listing c) + size_of_name name ≤ directory_most → (folder_listing c).next_cookie < cookie_most → is_within (with_listing (λ l. with_entry l name fileid) c) ≡ true
+pub within-with_entry : (c : Content) (name : List ℕ) (fileid : ℕ) → directory_test c ≡ true → is_within c ≡ true → length name ≤ max_name_bytes → size_of_listing (directory_listing c) + size_of_name name ≤ max_directory_bytes → (directory_listing c).next_cookie < max_cookie → is_within (with_listing (λ l. with_entry l name fileid) c) ≡ true
 within-with_entry (File bytes) name fileid f w n s k = absurd (cc)
 within-with_entry (Link text) name fileid f w n s k = absurd (cc)
-within-with_entry (Folder parent l) name fileid f w n s k =
-    let outer : ((nat_le (size_of_listing l) directory_most && nat_le l.next_cookie cookie_most) ≡ true) × (list_all (λ (e : Entry). nat_le (length e.name) name_most) l.entries ≡ true) = and_parts _ _ w in
+within-with_entry (Directory parent l) name fileid f w n s k =
+    let outer : ((nat_le (size_of_listing l) max_directory_bytes && nat_le l.next_cookie max_cookie) ≡ true) × (list_all (λ (e : Entry). nat_le (length e.name) max_name_bytes) l.entries ≡ true) = and_parts _ _ w in
     let e : Entry = record { cookie = l.next_cookie; name = name; fileid = fileid } in
     let size : sum_by (λ (e : Entry). size_of_name e.name) (l.entries ++ e ∷ []) ≡ size_of_listing l + (0 + size_of_name name) = sum_by-append (λ (e : Entry). size_of_name e.name) l.entries (e ∷ []) in
-    let names : list_all (λ (e : Entry). nat_le (length e.name) name_most) (l.entries ++ e ∷ []) ≡ true = rw list_all-append (and_from _ _ outer.1 (and_from _ _ (le-leb (length name) name_most n) refl)) in
-    let room : sum_by (λ (e : Entry). size_of_name e.name) (l.entries ++ e ∷ []) ≤ directory_most = omega arith in
-    and_from _ _ (and_from _ _ (le-leb _ directory_most room) (le-leb (l.next_cookie + 1) cookie_most (omega arith))) names
+    let names : list_all (λ (e : Entry). nat_le (length e.name) max_name_bytes) (l.entries ++ e ∷ []) ≡ true = rw list_all-append (and_from _ _ outer.1 (and_from _ _ (le-leb (length name) max_name_bytes n) refl)) in
+    let room : sum_by (λ (e : Entry). size_of_name e.name) (l.entries ++ e ∷ []) ≤ max_directory_bytes = omega arith in
+    and_from _ _ (and_from _ _ (le-leb _ max_directory_bytes room) (le-leb (l.next_cookie + 1) max_cookie (omega arith))) names
 
 -- the same place written twice
 with_node-twice : (ns : List (ℕ × Node)) (k : ℕ) (a b : Node) → with_node (with_node ns k a) k b ≡ with_node ns k b
@@ -67,21 +67,21 @@ with_node-twice (e ∷ es) k a b = go (e.0 == k) refl (nat_lt k e.0) refl (with_
     go false h false i ih = rw (h, i, h, i) (ap (λ (r : List (ℕ × Node)). e ∷ r) ih)
 
 -- a directory that may take the name, and a node that may stand there
-entering : (t : Tree) (dir : ℕ) (name : List ℕ) (d d' node : Node) → IsValidTree t → node_at t.nodes dir ≡ Some d → is_folder d ≡ true → d'.content ≡ with_listing (λ l. with_entry l name t.next_fileid) d.content → d'.nlink ≡ d.nlink + cond (is_folder node) 1 0 → d'.mode ≡ d.mode → named t dir name ≡ None → nat_lt name_most (length name) ≡ false → AllPassed (new_room_rules t dir name) → listing_of node ≡ new_listing → (is_folder node ≡ true → parent_of node ≡ dir) → node.nlink ≡ cond (is_folder node) 2 1 → nat_lt node.mode 0o10000 ≡ true → is_within node.content ≡ true → Entering t dir name d d' node
-entering t dir name d d' node v at folder content nlink mode free short room listing parent links small within =
+entering : (t : Tree) (dir : ℕ) (name : List ℕ) (d d' node : Node) → IsValidTree t → node_at t.nodes dir ≡ Some d → is_directory d ≡ true → d'.content ≡ with_listing (λ l. with_entry l name t.next_fileid) d.content → d'.nlink ≡ d.nlink + cond (is_directory node) 1 0 → d'.mode ≡ d.mode → named t dir name ≡ None → nat_lt max_name_bytes (length name) ≡ false → AllPassed (new_room_rules t dir name) → listing_of node ≡ new_listing → (is_directory node ≡ true → parent_of node ≡ dir) → node.nlink ≡ cond (is_directory node) 2 1 → nat_lt node.mode 0o10000 ≡ true → is_within node.content ≡ true → Entering t dir name d d' node
+entering t dir name d d' node v at directory content nlink mode free short room listing parent links small within =
     let change : Listing → Listing = λ l. with_entry l name t.next_fileid in
     let node_is : the_node t dir ≡ d = ap (λ (o : Option Node). unwrap_or o no_node) at in
-    let space : size_of_listing (listing_of d) + size_of_name name ≤ directory_most = subst (λ (n : Node). size_of_listing (listing_of n) + size_of_name name ≤ directory_most) node_is (ltb-false directory_most _ room.1.1.0) in
-    let cookie : (listing_of d).next_cookie < cookie_most = subst (λ (n : Node). (listing_of n).next_cookie < cookie_most) node_is (leb-false cookie_most _ room.1.1.1.0) in
+    let space : size_of_listing (listing_of d) + size_of_name name ≤ max_directory_bytes = subst (λ (n : Node). size_of_listing (listing_of n) + size_of_name name ≤ max_directory_bytes) node_is (ltb-false max_directory_bytes _ room.1.1.0) in
+    let cookie : (listing_of d).next_cookie < max_cookie = subst (λ (n : Node). (listing_of n).next_cookie < max_cookie) node_is (leb-false max_cookie _ room.1.1.1.0) in
     record {
       at = at;
-      folder = folder;
-      folder' = ap folder_test content ∙ folder-with_listing change d.content folder;
-      parent' = ap folder_parent content ∙ parent-with_listing change d.content;
-      listing' = ap folder_listing content ∙ listing-with_listing change d.content folder;
+      directory = directory;
+      directory' = ap directory_test content ∙ directory-with_listing change d.content directory;
+      parent' = ap directory_parent content ∙ parent-with_listing change d.content;
+      listing' = ap directory_listing content ∙ listing-with_listing change d.content directory;
       nlink' = nlink;
       mode' = ap (λ (m : ℕ). nat_lt m 0o10000) mode ∙ each-node_at (λ k n. nat_lt n.mode 0o10000) t.nodes dir d v.modes at;
-      within' = ap is_within content ∙ within-with_entry d.content name t.next_fileid folder (each-node_at (λ k n. is_within n.content) t.nodes dir d v.contents_within at) (ltb-false name_most (length name) short) space cookie;
+      within' = ap is_within content ∙ within-with_entry d.content name t.next_fileid directory (each-node_at (λ k n. is_within n.content) t.nodes dir d v.contents_within at) (ltb-false max_name_bytes (length name) short) space cookie;
       free = subst (λ (n : Node). fileid_at (listing_of n) name ≡ None) node_is free;
       listing = listing;
       parent = parent;
@@ -99,13 +99,13 @@ add_node-valid t now dir name node d v g =
     subst (λ (n : Node). IsValidTree (put (grow t node) dir (enter now name t.next_fileid n))) (sym there) (grown_valid t dir name d (enter now name t.next_fileid d) node v g)
 
 -- the directory that a handle was found to have
-pub folder_there : (t : Tree) (dir : ℕ) (d : Node) → node_at t.nodes dir ≡ Some d → not (is_folder (the_node t dir)) ≡ false → is_folder d ≡ true
-folder_there t dir d at h = not-false (is_folder d) (subst (λ (n : Node). not (is_folder n) ≡ false) (ap (λ (o : Option Node). unwrap_or o no_node) at) h)
+pub directory_there : (t : Tree) (dir : ℕ) (d : Node) → node_at t.nodes dir ≡ Some d → not (is_directory (the_node t dir)) ≡ false → is_directory d ≡ true
+directory_there t dir d at h = not-false (is_directory d) (subst (λ (n : Node). not (is_directory n) ≡ false) (ap (λ (o : Option Node). unwrap_or o no_node) at) h)
 
 -- a new file's bytes
-new_bytes : (size : Option ℕ) → is_too_big size ≡ false → nat_le (length (resized [] (unwrap_or size 0))) file_most ≡ true
+new_bytes : (size : Option ℕ) → is_too_big size ≡ false → nat_le (length (resized [] (unwrap_or size 0))) max_file_bytes ≡ true
 new_bytes None h = refl
-new_bytes (Some size) h = le-leb (length (resized [] size)) file_most (omega (arith, length-resized [] size, ltb-false file_most size h))
+new_bytes (Some size) h = le-leb (length (resized [] size)) max_file_bytes (omega (arith, length-resized [] size, ltb-false max_file_bytes size h))
 
 -- the same where the directory gets a link besides
 mkdir_valid : (t : Tree) (now : Moment) (dir : ℕ) (name : List ℕ) (node : Node) (d : Node) → IsValidTree t → Entering t dir name d (add_link (enter now name t.next_fileid d)) node → IsValidTree (edit (add_node t now dir name node) dir add_link)
@@ -123,7 +123,7 @@ pub none_of : {A : Type 0} (o : Option A) → is_some o ≡ false → o ≡ None
 none_of None e = refl
 none_of (Some x) e = absurd (cc)
 
-pub symlink_kept : (at : At) (set : SetAttr) (text : List ℕ) → KeepsValid (Call.Symlink at set text)
+pub symlink_kept : (at : DirOpArgs) (set : SetAttr) (text : List ℕ) → KeepsValid (Call.Symlink at set text)
 unfolding changed_tree refusal_of rules_of
 symlink_kept at set text = kept (Call.Symlink at set text) (λ t cred now none v. go t cred now (passed (symlink_rules t cred at set text) none) v)
   where
@@ -133,14 +133,14 @@ symlink_kept at set text = kept (Call.Symlink at set text) (λ t cred now none v
         let there = is_there (node_at t.nodes dir) p.1.0 in
         let d = there.0 in
         let node = new_node cred now 0o777 set (Link text) in
-        let folder = folder_there t dir d there.1 p.1.1.0 in
+        let directory = directory_there t dir d there.1 p.1.1.0 in
         let free = none_of (named t dir at.name) p.1.1.1.1.1.1.1.1.1.0 in
         let short = p.1.1.1.0 in
         let room = p.1.1.1.1.1.1.1.1.1.1.1.1.1 in
         add_node-valid t now dir at.name node d v
-        (entering t dir at.name d (enter now at.name t.next_fileid d) node v there.1 folder refl (omega arith) refl free short room refl (λ e. absurd (cc)) refl (mode_within set.mode 0o777 refl) (le-leb (length text) text_most (ltb-false text_most (length text) p.1.1.1.1.1.0)))
+        (entering t dir at.name d (enter now at.name t.next_fileid d) node v there.1 directory refl (omega arith) refl free short room refl (λ e. absurd (cc)) refl (mode_within set.mode 0o777 refl) (le-leb (length text) max_link_text_bytes (ltb-false max_link_text_bytes (length text) p.1.1.1.1.1.0)))
 
-pub mkdir_kept : (at : At) (set : SetAttr) → KeepsValid (Call.Mkdir at set)
+pub mkdir_kept : (at : DirOpArgs) (set : SetAttr) → KeepsValid (Call.Mkdir at set)
 unfolding changed_tree refusal_of rules_of
 mkdir_kept at set = kept (Call.Mkdir at set) (λ t cred now none v. go t cred now (passed (mkdir_rules t cred at set) none) v)
   where
@@ -149,13 +149,13 @@ mkdir_kept at set = kept (Call.Mkdir at set) (λ t cred now none v. go t cred no
         let dir = fileid_in at.directory in
         let there = is_there (node_at t.nodes dir) p.1.0 in
         let d = there.0 in
-        let node = new_node cred now 0o755 set (Folder dir new_listing) in
-        let folder = folder_there t dir d there.1 p.1.1.0 in
+        let node = new_node cred now 0o755 set (Directory dir new_listing) in
+        let directory = directory_there t dir d there.1 p.1.1.0 in
         let free = none_of (named t dir at.name) p.1.1.1.1.1.1.1.0 in
         let short = p.1.1.1.0 in
         let room = p.1.1.1.1.1.1.1.1.1.1.1 in
         mkdir_valid t now dir at.name node d v
-        (entering t dir at.name d (add_link (enter now at.name t.next_fileid d)) node v there.1 folder refl refl refl free short room refl (λ e. refl) refl (mode_within set.mode 0o755 refl) refl)
+        (entering t dir at.name d (add_link (enter now at.name t.next_fileid d)) node v there.1 directory refl refl refl free short room refl (λ e. refl) refl (mode_within set.mode 0o755 refl) refl)
 
 -- what holds of each entry's node holds of the one that a name stands for
 pub found_in : (p : ℕ → Bool) (name : List ℕ) (xs : List Entry) (fileid : ℕ) → option_map (λ (e : Entry). e.fileid) (find (λ (e : Entry). bytes_eq e.name name) xs) ≡ Some fileid → list_all (λ (e : Entry). p e.fileid) xs ≡ true → p fileid ≡ true
@@ -188,15 +188,15 @@ taken_valid t fileid (Some size) now v there small =
     let content : is_within a.0.content ≡ true = each-node_at (λ k n. is_within n.content) t.nodes fileid a.0 v.contents_within a.1 in
     let shape = with_size-shape (Some size) now a.0 in
     let at : the_node t fileid ≡ a.0 = ap (λ (o : Option Node). unwrap_or o no_node) a.1 in
-    subst (λ (n : Node). IsValidTree (put t fileid (stamp now (with_size (Some size) now n)))) (sym at) (put_valid t fileid a.0 (stamp now (with_size (Some size) now a.0)) v a.1 (record { folder = shape.folder; parent = shape.parent; listing = shape.listing; nlink = shape.nlink }) mode (with_size-within (Some size) now a.0 small content))
+    subst (λ (n : Node). IsValidTree (put t fileid (stamp now (with_size (Some size) now n)))) (sym at) (put_valid t fileid a.0 (stamp now (with_size (Some size) now a.0)) v a.1 (record { directory = shape.directory; parent = shape.parent; listing = shape.listing; nlink = shape.nlink }) mode (with_size-within (Some size) now a.0 small content))
 
 -- what the rules on a taken name leave of the size
-taken_size : (t : Tree) (cred : Cred) (fileid : ℕ) (how : How) → AllPassed (taken_rules t cred fileid how) → is_too_big (unchecked_size how) ≡ false
+taken_size : (t : Tree) (cred : Cred) (fileid : ℕ) (how : CreateHow) → AllPassed (taken_rules t cred fileid how) → is_too_big (unchecked_size how) ≡ false
 taken_size t cred fileid (Unchecked set) p = p.1.1.0
 taken_size t cred fileid (Guarded set) p = absurd (false≢true (sym p.0))
 taken_size t cred fileid (Exclusive verifier) p = refl
 
-pub create_kept : (at : At) (how : How) → KeepsValid (Call.Create at how)
+pub create_kept : (at : DirOpArgs) (how : CreateHow) → KeepsValid (Call.Create at how)
 unfolding changed_tree refusal_of rules_of
 create_kept at how = kept (Call.Create at how) (λ t cred now none v. go t cred now (passed (create_rules t cred at how) none) v)
   where
@@ -217,6 +217,6 @@ create_kept at how = kept (Call.Create at how) (λ t cred now none v. go t cred 
             let rest = rw e at p.1.1.1.1.1.1.1 in
             let d = there.0 in
             let node = new_file cred now how in
-            let folder = folder_there t (fileid_in at.directory) d there.1 p.1.1.0 in
+            let directory = directory_there t (fileid_in at.directory) d there.1 p.1.1.0 in
             rw e (add_node-valid t now (fileid_in at.directory) at.name node d v
-            (entering t (fileid_in at.directory) at.name d (enter now at.name t.next_fileid d) node v there.1 folder refl (omega arith) refl e p.1.1.1.0 rest.1.1.1.1 refl (λ e. absurd (cc)) refl (mode_within (set_by how).mode 0o644 refl) (new_bytes (set_by how).size rest.1.1.1.0)))
+            (entering t (fileid_in at.directory) at.name d (enter now at.name t.next_fileid d) node v there.1 directory refl (omega arith) refl e p.1.1.1.0 rest.1.1.1.1 refl (λ e. absurd (cc)) refl (mode_within (set_by how).mode 0o644 refl) (new_bytes (set_by how).size rest.1.1.1.0)))

@@ -5,12 +5,12 @@ use Rattle.std.specs.List.{list_all, list_any}
 use Rattle.std.specs.Str.{bytes_eq}
 use Rattle.std.proofs.lemmas.Bool.{and_parts, and_from, eqb-true, eqb-false, eq-eqb, ne_eqb, leb-true, le-leb, or_cases, or_left, or_right, not-true, false≢true, cases_Bool}
 use Rattle.std.proofs.lemmas.List.Sums.{length-filter, sum_by-append}
-use Rattle.sky_base.specs.Limits.{links_most, nodes_most}
+use Rattle.sky_base.specs.Limits.{max_links, max_nodes}
 use Rattle.sky_base.specs.Listing.{Listing, Entry, without_entry, without_name, size_of_name}
-use Rattle.sky_nfs.specs.Tree.{Tree, Node, Content, node_at, the_node, no_node, root, is_folder, folder_test, folder_listing, listing_of, parent_of, all_entries, names_of, links_of, subfolders, ancestors, is_at_or_below}
+use Rattle.sky_nfs.specs.Tree.{Tree, Node, Content, node_at, the_node, no_node, root, is_directory, directory_test, directory_listing, listing_of, parent_of, all_entries, names_of, links_of, subdirectories, ancestors, is_at_or_below}
 use Rattle.sky_nfs.specs.Validity.{IsValidTree, ascends_below, are_distinct, is_within, each_node}
 use Rattle.sky_nfs.proofs.ValidityLemmas.{each-node_at, agree}
-use Rattle.sky_nfs.proofs.GrowLemmas.{keys, entries, cnt, total, total_lem, each-of, each_entry, entries_weaken, cnt-agree, folder_of, there_of, some_of}
+use Rattle.sky_nfs.proofs.GrowLemmas.{keys, entries, cnt, total, total_lem, each-of, each_entry, entries_weaken, cnt-agree, directory_of, there_of, some_of}
 use Rattle.sky_nfs.proofs.CreateLemmas.{found_in}
 use Rattle.sky_nfs.proofs.WayLemmas.{short_way}
 
@@ -133,7 +133,7 @@ none_counted p (x ∷ xs) h = go (p x) h (none_counted p xs)
 -- what becomes of the node whose entry went: it goes, or it is no directory and has a link less
 pub data Fate (t : Tree) (f : ℕ) (a : Node) : Option Node → Type 0 where
   gone : names_of t f ≡ 1 → Fate t f a None
-  less : {b : Node} → b.content ≡ a.content → is_folder a ≡ false → b.nlink + 1 ≡ a.nlink → 1 < a.nlink → b.mode ≡ a.mode → Fate t f a (Some b)
+  less : {b : Node} → b.content ≡ a.content → is_directory a ≡ false → b.nlink + 1 ≡ a.nlink → 1 < a.nlink → b.mode ≡ a.mode → Fate t f a (Some b)
 
 -- a directory loses the entry of a node that has no entries of its own
 pub record Dropping (t : Tree) (dir f : ℕ) (name : List ℕ) (d d' a : Node) (o : Option Node) (ms : List (ℕ × Node)) : Type 0 where
@@ -142,15 +142,15 @@ pub record Dropping (t : Tree) (dir f : ℕ) (name : List ℕ) (d d' a : Node) (
   pub counts : (p : Entry → Bool) → total p ms + cnt p (entries d) ≡ total p t.nodes + cnt p (entries d')
   pub size : length ms ≤ length t.nodes
   pub at : node_at t.nodes dir ≡ Some d
-  pub folder : is_folder d ≡ true
-  pub folder' : is_folder d' ≡ true
+  pub directory : is_directory d ≡ true
+  pub directory' : is_directory d' ≡ true
   pub parent' : parent_of d' ≡ parent_of d
   pub listing' : listing_of d' ≡ without_entry (listing_of d) name
   pub found : found_id (entries d) name ≡ Some f
   pub there : node_at t.nodes f ≡ Some a
   pub empty : entries a ≡ []
   pub apart : (dir == f) ≡ false
-  pub nlink' : d'.nlink + cond (is_folder a) 1 0 ≡ d.nlink
+  pub nlink' : d'.nlink + cond (is_directory a) 1 0 ≡ d.nlink
   pub mode' : nat_lt d'.mode 0o10000 ≡ true
   pub within' : is_within d'.content ≡ true
   pub fate : Fate t f a o
@@ -174,12 +174,12 @@ module _ (t : Tree) (dir f : ℕ) (name : List ℕ) (d d' a : Node) (o : Option 
   f_not_root : (f == root) ≡ false
   f_not_root = not-true _ (found_in (λ k. not (k == root)) name (entries d) f g.found (none_root dir d g.at))
 
-  fate_plain : (o : Option Node) → Fate t f a o → is_folder (unwrap_or o no_node) ≡ false
+  fate_plain : (o : Option Node) → Fate t f a o → is_directory (unwrap_or o no_node) ≡ false
   fate_plain None x = refl
-  fate_plain (Some b) (less content plain links many mode) = ap folder_test content ∙ plain
+  fate_plain (Some b) (less content plain links many mode) = ap directory_test content ∙ plain
 
   fate_empty : (b : Node) → Fate t f a (Some b) → entries b ≡ []
-  fate_empty b (less content plain links many mode) = ap (λ (c : Content). (folder_listing c).entries) content ∙ g.empty
+  fate_empty b (less content plain links many mode) = ap (λ (c : Content). (directory_listing c).entries) content ∙ g.empty
 
   -- the directory, the other node where it stays, and every other one
   cases : (P : ℕ → Node → Type 0) → P dir d' → ((b : Node) → Fate t f a (Some b) → P f b) → ((k : ℕ) (n : Node) → node_at t.nodes k ≡ Some n → (dir == k) ≡ false → (f == k) ≡ false → P k n) → (k : ℕ) (n : Node) → node_at ms k ≡ Some n → P k n
@@ -203,8 +203,8 @@ module _ (t : Tree) (dir f : ℕ) (name : List ℕ) (d d' a : Node) (o : Option 
       go true e = here ∙ ap h (sym (subst (λ (j : ℕ). node_at t.nodes j ≡ Some d) (eqb-true dir k e) g.at))
       go false e = ap (λ (b : Bool). h (cond b o (node_at t.nodes k))) i
 
-  folder_same : (k : ℕ) → (f == k) ≡ false → is_folder (the_node less_tree k) ≡ is_folder (the_node t k)
-  folder_same = same_at (λ x. is_folder (unwrap_or x no_node)) (g.folder' ∙ sym g.folder)
+  directory_same : (k : ℕ) → (f == k) ≡ false → is_directory (the_node less_tree k) ≡ is_directory (the_node t k)
+  directory_same = same_at (λ x. is_directory (unwrap_or x no_node)) (g.directory' ∙ sym g.directory)
 
   parent_same : (k : ℕ) → (f == k) ≡ false → parent_of (the_node less_tree k) ≡ parent_of (the_node t k)
   parent_same = same_at (λ x. parent_of (unwrap_or x no_node)) g.parent'
@@ -257,23 +257,23 @@ module _ (t : Tree) (dir f : ℕ) (name : List ℕ) (d d' a : Node) (o : Option 
   has n k = list_any (λ e. e.fileid == k) (entries n)
 
   -- a directory that stays has a parent that stays
-  parent_stays : (k : ℕ) → is_folder (the_node t k) ≡ true → (is_folder (the_node t (parent_of (the_node t k))) ≡ true) × ((f == parent_of (the_node t k)) ≡ false)
+  parent_stays : (k : ℕ) → is_directory (the_node t k) ≡ true → (is_directory (the_node t (parent_of (the_node t k))) ≡ true) × ((f == parent_of (the_node t k)) ≡ false)
   parent_stays k i =
       let n = some_of (node_at t.nodes k) (there_of (node_at t.nodes k) i) in
       let node_is : the_node t k ≡ n.0 = ap (λ (x : Option Node). unwrap_or x no_node) n.1 in
-      let folder : is_folder n.0 ≡ true = subst (λ (m : Node). is_folder m ≡ true) node_is i in
-      subst (λ (m : Node). (is_folder (the_node t (parent_of m)) ≡ true) × ((f == parent_of m) ≡ false)) (sym node_is)
-      (go n.0 node_is folder (cases_Bool (k == root)) (each-node_at (λ k n. not (is_folder n) || k == root || has (the_node t (parent_of n)) k) t.nodes k n.0 v.folders_stand_in_parents n.1))
+      let directory : is_directory n.0 ≡ true = subst (λ (m : Node). is_directory m ≡ true) node_is i in
+      subst (λ (m : Node). (is_directory (the_node t (parent_of m)) ≡ true) × ((f == parent_of m) ≡ false)) (sym node_is)
+      (go n.0 node_is directory (cases_Bool (k == root)) (each-node_at (λ k n. not (is_directory n) || k == root || has (the_node t (parent_of n)) k) t.nodes k n.0 v.directories_stand_in_parents n.1))
     where
-      go : (n : Node) → the_node t k ≡ n → is_folder n ≡ true → ((k == root) ≡ true) ⊎ ((k == root) ≡ false) → (not (is_folder n) || k == root || has (the_node t (parent_of n)) k) ≡ true → (is_folder (the_node t (parent_of n)) ≡ true) × ((f == parent_of n) ≡ false)
-      go n same folder (inl top) stands =
+      go : (n : Node) → the_node t k ≡ n → is_directory n ≡ true → ((k == root) ≡ true) ⊎ ((k == root) ≡ false) → (not (is_directory n) || k == root || has (the_node t (parent_of n)) k) ≡ true → (is_directory (the_node t (parent_of n)) ≡ true) × ((f == parent_of n) ≡ false)
+      go n same directory (inl top) stands =
           let is_root : k ≡ root = eqb-true k root top in
           let up : parent_of (the_node t root) ≡ root = eqb-true _ root v.root_is_top in
           let here : parent_of n ≡ root = ap parent_of (sym same) ∙ subst (λ (j : ℕ). parent_of (the_node t j) ≡ root) (sym is_root) up in
-          subst (λ (j : ℕ). (is_folder (the_node t j) ≡ true) × ((f == j) ≡ false)) (sym here) (v.root_is_folder, f_not_root)
-      go n same folder (inr lower) stands =
-          let holds : has (the_node t (parent_of n)) k ≡ true = rw (folder, lower) at stands in
-          (folder_of (λ e. e.fileid == k) (the_node t (parent_of n)) holds, ne_eqb f (parent_of n) (λ e. empty_at (parent_of n) e holds))
+          subst (λ (j : ℕ). (is_directory (the_node t j) ≡ true) × ((f == j) ≡ false)) (sym here) (v.root_is_directory, f_not_root)
+      go n same directory (inr lower) stands =
+          let holds : has (the_node t (parent_of n)) k ≡ true = rw (directory, lower) at stands in
+          (directory_of (λ e. e.fileid == k) (the_node t (parent_of n)) holds, ne_eqb f (parent_of n) (λ e. empty_at (parent_of n) e holds))
         where
           empty_at : (p : ℕ) → f ≡ p → has (the_node t p) k ≡ true → ⊥
           empty_at p e holds =
@@ -282,14 +282,14 @@ module _ (t : Tree) (dir f : ℕ) (name : List ℕ) (d d' a : Node) (o : Option 
               let no : has (the_node t p) k ≡ false = ap (list_any (λ (x : Entry). x.fileid == k)) none in
               false≢true (sym no ∙ holds)
 
-  way_kept : (m k : ℕ) → is_folder (the_node t k) ≡ true → (f == k) ≡ false → ancestors less_tree m k ≡ ancestors t m k
+  way_kept : (m k : ℕ) → is_directory (the_node t k) ≡ true → (f == k) ≡ false → ancestors less_tree m k ≡ ancestors t m k
   way_kept zero k i e = refl
   way_kept (suc m) k i e =
       let up : parent_of (the_node less_tree k) ≡ parent_of (the_node t k) = parent_same k e in
       let p = parent_stays k i in
       ap (λ (r : List ℕ). k ∷ r) (ap (ancestors less_tree m) up ∙ way_kept m (parent_of (the_node t k)) p.0 p.1)
 
-  members_stay : (m k q : ℕ) → is_folder (the_node t k) ≡ true → (f == k) ≡ false → list_any (eqb q) (ancestors less_tree m k) ≡ true → is_some (node_at ms q) ≡ true
+  members_stay : (m k q : ℕ) → is_directory (the_node t k) ≡ true → (f == k) ≡ false → list_any (eqb q) (ancestors less_tree m k) ≡ true → is_some (node_at ms q) ≡ true
   members_stay zero k q i e h = absurd (cc)
   members_stay (suc m) k q i e h =
       let p = parent_stays k i in
@@ -301,7 +301,7 @@ module _ (t : Tree) (dir f : ℕ) (name : List ℕ) (d d' a : Node) (o : Option 
           subst (λ (j : ℕ). is_some (node_at ms j) ≡ true) (sym (eqb-true q k same)) here
       go (inr rest) ih = ih (subst (λ (j : ℕ). list_any (eqb q) (ancestors less_tree m j) ≡ true) (parent_same k e) rest)
 
-  way_up_kept : (k : ℕ) → is_folder (the_node t k) ≡ true → (f == k) ≡ false → is_at_or_below t k root ≡ true → is_at_or_below less_tree k root ≡ true
+  way_up_kept : (k : ℕ) → is_directory (the_node t k) ≡ true → (f == k) ≡ false → is_at_or_below t k root ≡ true → is_at_or_below less_tree k root ≡ true
   way_up_kept k i e h = short_way less_tree (length t.nodes) k (λ n q x in'. members_stay n k q i e in') (ap (list_any (λ x. x == root)) (way_kept (length t.nodes) k i e) ∙ h)
 
   has_kept : (p k : ℕ) → (f == k) ≡ false → has (the_node t p) k ≡ true → has (the_node less_tree p) k ≡ true
@@ -319,33 +319,33 @@ module _ (t : Tree) (dir f : ℕ) (name : List ℕ) (d d' a : Node) (o : Option 
       go false e (inr c) = rw (g.at_ms p, e, c) h
 
   abbrev lower : (ℕ → Node → Bool) → ℕ → Node → Bool
-  lower p k n = not (is_folder n) || k == root || p k n
+  lower p k n = not (is_directory n) || k == root || p k n
 
   plain_lower : (p : ℕ → Node → Bool) (b : Node) → Fate t f a (Some b) → lower p f b ≡ true
-  plain_lower p b x = let plain : is_folder b ≡ false = fate_plain (Some b) x in or_left (not (is_folder b) || f == root) (p f b) (or_left (not (is_folder b)) (f == root) (rw plain))
+  plain_lower p b x = let plain : is_directory b ≡ false = fate_plain (Some b) x in or_left (not (is_directory b) || f == root) (p f b) (or_left (not (is_directory b)) (f == root) (rw plain))
 
-  lower_from : (p q : ℕ → Node → Bool) (k : ℕ) (n m : Node) → is_folder m ≡ is_folder n → (is_folder n ≡ true → p k n ≡ true → q k m ≡ true) → lower p k n ≡ true → lower q k m ≡ true
-  lower_from p q k n m same imp h = go (is_folder n) refl (or_cases (not (is_folder n) || k == root) (p k n) h)
+  lower_from : (p q : ℕ → Node → Bool) (k : ℕ) (n m : Node) → is_directory m ≡ is_directory n → (is_directory n ≡ true → p k n ≡ true → q k m ≡ true) → lower p k n ≡ true → lower q k m ≡ true
+  lower_from p q k n m same imp h = go (is_directory n) refl (or_cases (not (is_directory n) || k == root) (p k n) h)
     where
-      go : (b : Bool) → is_folder n ≡ b → ((not (is_folder n) || k == root) ≡ true) ⊎ (p k n ≡ true) → lower q k m ≡ true
-      go b e (inl first) = or_left (not (is_folder m) || k == root) (q k m) (ap (λ (b : Bool). not b || k == root) same ∙ first)
-      go true e (inr second) = or_right (not (is_folder m) || k == root) (q k m) (imp e second)
-      go false e (inr second) = or_left (not (is_folder m) || k == root) (q k m) (or_left (not (is_folder m)) (k == root) (ap not (same ∙ e)))
+      go : (b : Bool) → is_directory n ≡ b → ((not (is_directory n) || k == root) ≡ true) ⊎ (p k n ≡ true) → lower q k m ≡ true
+      go b e (inl first) = or_left (not (is_directory m) || k == root) (q k m) (ap (λ (b : Bool). not b || k == root) same ∙ first)
+      go true e (inr second) = or_right (not (is_directory m) || k == root) (q k m) (imp e second)
+      go false e (inr second) = or_left (not (is_directory m) || k == root) (q k m) (or_left (not (is_directory m)) (k == root) (ap not (same ∙ e)))
 
   dir_apart : (f == dir) ≡ false
   dir_apart = ne_eqb f dir (λ e. eqb-false dir f g.apart (sym e))
 
-  same_folder : is_folder d' ≡ is_folder d
-  same_folder = g.folder' ∙ sym g.folder
+  same_directory : is_directory d' ≡ is_directory d
+  same_directory = g.directory' ∙ sym g.directory
 
-  named_one : (k : ℕ) (n m : Node) → is_folder m ≡ is_folder n → (f == k) ≡ false → node_at t.nodes k ≡ Some n → lower (λ k n. names_of less_tree k == 1) k m ≡ true
-  named_one k n m same i at = lower_from (λ k n. names_of t k == 1) (λ k n. names_of less_tree k == 1) k n m same (λ y h. ap (λ (x : ℕ). x == 1) (names_kept k i) ∙ h) (each-node_at (lower (λ k n. names_of t k == 1)) t.nodes k n v.folders_have_one at)
+  named_one : (k : ℕ) (n m : Node) → is_directory m ≡ is_directory n → (f == k) ≡ false → node_at t.nodes k ≡ Some n → lower (λ k n. names_of less_tree k == 1) k m ≡ true
+  named_one k n m same i at = lower_from (λ k n. names_of t k == 1) (λ k n. names_of less_tree k == 1) k n m same (λ y h. ap (λ (x : ℕ). x == 1) (names_kept k i) ∙ h) (each-node_at (lower (λ k n. names_of t k == 1)) t.nodes k n v.directories_have_one at)
 
-  stands : (k : ℕ) (n m : Node) → is_folder m ≡ is_folder n → parent_of m ≡ parent_of n → (f == k) ≡ false → node_at t.nodes k ≡ Some n → lower (λ k n. has (the_node less_tree (parent_of n)) k) k m ≡ true
-  stands k n m same up i at = lower_from (λ k n. has (the_node t (parent_of n)) k) (λ k n. has (the_node less_tree (parent_of n)) k) k n m same (λ y h. subst (λ (p : ℕ). has (the_node less_tree p) k ≡ true) (sym up) (has_kept (parent_of n) k i h)) (each-node_at (lower (λ k n. has (the_node t (parent_of n)) k)) t.nodes k n v.folders_stand_in_parents at)
+  stands : (k : ℕ) (n m : Node) → is_directory m ≡ is_directory n → parent_of m ≡ parent_of n → (f == k) ≡ false → node_at t.nodes k ≡ Some n → lower (λ k n. has (the_node less_tree (parent_of n)) k) k m ≡ true
+  stands k n m same up i at = lower_from (λ k n. has (the_node t (parent_of n)) k) (λ k n. has (the_node less_tree (parent_of n)) k) k n m same (λ y h. subst (λ (p : ℕ). has (the_node less_tree p) k ≡ true) (sym up) (has_kept (parent_of n) k i h)) (each-node_at (lower (λ k n. has (the_node t (parent_of n)) k)) t.nodes k n v.directories_stand_in_parents at)
 
-  leads_up : (k : ℕ) (n m : Node) → is_folder m ≡ is_folder n → (f == k) ≡ false → node_at t.nodes k ≡ Some n → lower (λ k n. is_at_or_below less_tree k root) k m ≡ true
-  leads_up k n m same i at = lower_from (λ k n. is_at_or_below t k root) (λ k n. is_at_or_below less_tree k root) k n m same (λ y h. way_up_kept k (ap (λ (x : Option Node). is_folder (unwrap_or x no_node)) at ∙ y) i h) (each-node_at (lower (λ k n. is_at_or_below t k root)) t.nodes k n v.ways_lead_up at)
+  leads_up : (k : ℕ) (n m : Node) → is_directory m ≡ is_directory n → (f == k) ≡ false → node_at t.nodes k ≡ Some n → lower (λ k n. is_at_or_below less_tree k root) k m ≡ true
+  leads_up k n m same i at = lower_from (λ k n. is_at_or_below t k root) (λ k n. is_at_or_below less_tree k root) k n m same (λ y h. way_up_kept k (ap (λ (x : Option Node). is_directory (unwrap_or x no_node)) at ∙ y) i h) (each-node_at (lower (λ k n. is_at_or_below t k root)) t.nodes k n v.ways_lead_up at)
 
   node_named : (k : ℕ) (n : Node) → node_at t.nodes k ≡ Some n → (f == k) ≡ false → (k == root || nat_le 1 (names_of less_tree k)) ≡ true
   node_named k n at i = ap (λ (m : ℕ). k == root || nat_le 1 m) (names_kept k i) ∙ each-node_at (λ k n. k == root || nat_le 1 (names_of t k)) t.nodes k n v.nodes_have_names at
@@ -357,54 +357,54 @@ module _ (t : Tree) (dir f : ℕ) (name : List ℕ) (d d' a : Node) (o : Option 
   at_f = ap (λ (x : Option Node). unwrap_or x no_node) g.there
 
   -- the node goes with its only name, or is no directory
-  one_or_plain : (x : Option Node) → Fate t f a x → (names_of t f ≡ 1) ⊎ (is_folder a ≡ false)
+  one_or_plain : (x : Option Node) → Fate t f a x → (names_of t f ≡ 1) ⊎ (is_directory a ≡ false)
   one_or_plain None (gone one) = inl one
   one_or_plain (Some b) (less content plain links many mode) = inr plain
 
-  all_same : is_folder a ≡ false → (k : ℕ) → is_folder (the_node less_tree k) ≡ is_folder (the_node t k)
+  all_same : is_directory a ≡ false → (k : ℕ) → is_directory (the_node less_tree k) ≡ is_directory (the_node t k)
   all_same plain k = go (f == k) refl
     where
-      go : (b : Bool) → (f == k) ≡ b → is_folder (the_node less_tree k) ≡ is_folder (the_node t k)
+      go : (b : Bool) → (f == k) ≡ b → is_directory (the_node less_tree k) ≡ is_directory (the_node t k)
       go true e =
-          let here : is_folder (the_node less_tree f) ≡ false = rw (g.at_ms f, g.apart, eq-eqb f f refl) (fate_plain o g.fate) in
-          let before : is_folder (the_node t f) ≡ false = ap is_folder at_f ∙ plain in
-          subst (λ (j : ℕ). is_folder (the_node less_tree j) ≡ is_folder (the_node t j)) (eqb-true f k e) (here ∙ sym before)
-      go false e = folder_same k e
+          let here : is_directory (the_node less_tree f) ≡ false = rw (g.at_ms f, g.apart, eq-eqb f f refl) (fate_plain o g.fate) in
+          let before : is_directory (the_node t f) ≡ false = ap is_directory at_f ∙ plain in
+          subst (λ (j : ℕ). is_directory (the_node less_tree j) ≡ is_directory (the_node t j)) (eqb-true f k e) (here ∙ sym before)
+      go false e = directory_same k e
 
   -- the entries that are left name directories as before
-  subfolders_kept : (k : ℕ) (n : Node) → node_at ms k ≡ Some n → cnt (λ e. is_folder (the_node less_tree e.fileid)) (entries n) ≡ cnt (λ e. is_folder (the_node t e.fileid)) (entries n)
-  subfolders_kept k n at = go (one_or_plain o g.fate)
+  subdirectories_kept : (k : ℕ) (n : Node) → node_at ms k ≡ Some n → cnt (λ e. is_directory (the_node less_tree e.fileid)) (entries n) ≡ cnt (λ e. is_directory (the_node t e.fileid)) (entries n)
+  subdirectories_kept k n at = go (one_or_plain o g.fate)
     where
-      go : (names_of t f ≡ 1) ⊎ (is_folder a ≡ false) → cnt (λ e. is_folder (the_node less_tree e.fileid)) (entries n) ≡ cnt (λ e. is_folder (the_node t e.fileid)) (entries n)
-      go (inl one) = cnt-agree (λ e. not (e.fileid == f)) (λ e. is_folder (the_node less_tree e.fileid)) (λ e. is_folder (the_node t e.fileid)) (λ e h. folder_same e.fileid (flip_apart e.fileid h)) (entries n) (each-node_at (λ k n. list_all (λ e. not (e.fileid == f)) (entries n)) ms k n (sym (each_entry (λ e. not (e.fileid == f)) ms) ∙ left_apart one) at)
+      go : (names_of t f ≡ 1) ⊎ (is_directory a ≡ false) → cnt (λ e. is_directory (the_node less_tree e.fileid)) (entries n) ≡ cnt (λ e. is_directory (the_node t e.fileid)) (entries n)
+      go (inl one) = cnt-agree (λ e. not (e.fileid == f)) (λ e. is_directory (the_node less_tree e.fileid)) (λ e. is_directory (the_node t e.fileid)) (λ e h. directory_same e.fileid (flip_apart e.fileid h)) (entries n) (each-node_at (λ k n. list_all (λ e. not (e.fileid == f)) (entries n)) ms k n (sym (each_entry (λ e. not (e.fileid == f)) ms) ∙ left_apart one) at)
       go (inr plain) = ap (λ (test : Entry → Bool). cnt test (entries n)) (agree (λ (e : Entry). all_same plain e.fileid))
 
-  subfolders_same : (k : ℕ) (n : Node) → node_at ms k ≡ Some n → subfolders less_tree n ≡ subfolders t n
-  subfolders_same k n at = sym (length-filter (λ (e : Entry). is_folder (the_node less_tree e.fileid)) (entries n)) ∙ subfolders_kept k n at ∙ length-filter (λ (e : Entry). is_folder (the_node t e.fileid)) (entries n)
+  subdirectories_same : (k : ℕ) (n : Node) → node_at ms k ≡ Some n → subdirectories less_tree n ≡ subdirectories t n
+  subdirectories_same k n at = sym (length-filter (λ (e : Entry). is_directory (the_node less_tree e.fileid)) (entries n)) ∙ subdirectories_kept k n at ∙ length-filter (λ (e : Entry). is_directory (the_node t e.fileid)) (entries n)
 
   links_kept : (k : ℕ) (n : Node) → node_at ms k ≡ Some n → (f == k) ≡ false → links_of less_tree k n ≡ links_of t k n
-  links_kept k n at i = cc (names_kept k i, subfolders_same k n at)
+  links_kept k n at i = cc (names_kept k i, subdirectories_same k n at)
 
   at_dir : node_at ms dir ≡ Some d'
   at_dir = rw (g.at_ms dir, eq-eqb dir dir refl)
 
   links_of_dir : d'.nlink ≡ links_of less_tree dir d'
   links_of_dir =
-      let q : ℕ → Bool = λ j. is_folder (the_node t j) in
-      let counted : links_of t dir d ≡ 2 + subfolders t d = rw g.folder in
-      let before : cnt (λ e. q e.fileid) (entries d) ≡ subfolders t d = length-filter (λ (e : Entry). q e.fileid) (entries d) in
-      let now : links_of less_tree dir d' ≡ 2 + subfolders less_tree d' = rw g.folder' in
-      let same : subfolders less_tree d' ≡ subfolders t d' = subfolders_same dir d' at_dir in
-      let after : cnt (λ e. q e.fileid) (entries d') ≡ subfolders t d' = length-filter (λ (e : Entry). q e.fileid) (entries d') in
+      let q : ℕ → Bool = λ j. is_directory (the_node t j) in
+      let counted : links_of t dir d ≡ 2 + subdirectories t d = rw g.directory in
+      let before : cnt (λ e. q e.fileid) (entries d) ≡ subdirectories t d = length-filter (λ (e : Entry). q e.fileid) (entries d) in
+      let now : links_of less_tree dir d' ≡ 2 + subdirectories less_tree d' = rw g.directory' in
+      let same : subdirectories less_tree d' ≡ subdirectories t d' = subdirectories_same dir d' at_dir in
+      let after : cnt (λ e. q e.fileid) (entries d') ≡ subdirectories t d' = length-filter (λ (e : Entry). q e.fileid) (entries d') in
       let left : cnt (λ e. q e.fileid) (entries d') ≡ cnt (λ e. q e.fileid) (without_name (entries d) name) = ap (cnt (λ e. q e.fileid)) entries' in
       let lost : cnt (λ e. q e.fileid) (without_name (entries d) name) + cond (q f) 1 0 ≡ cnt (λ e. q e.fileid) (entries d) = cnt-without q (entries d) name f g.found in
-      let kind : ◌≡◌ {A = ℕ} (cond (q f) 1 0) (cond (is_folder a) 1 0) = ap (λ (n : Node). cond (is_folder n) 1 0) at_f in
+      let kind : ◌≡◌ {A = ℕ} (cond (q f) 1 0) (cond (is_directory a) 1 0) = ap (λ (n : Node). cond (is_directory n) 1 0) at_f in
       omega (arith, links_before dir d g.at, g.nlink')
 
   links_of_file : (b : Node) → Fate t f a (Some b) → b.nlink ≡ links_of less_tree f b
   links_of_file b (less content plain links many mode) =
       let before : links_of t f a ≡ names_of t f = rw plain in
-      let plain' : is_folder b ≡ false = ap folder_test content ∙ plain in
+      let plain' : is_directory b ≡ false = ap directory_test content ∙ plain in
       let now : links_of less_tree f b ≡ names_of less_tree f = rw plain' in
       omega (arith, links_before f a g.there, names_f)
 
@@ -426,12 +426,12 @@ module _ (t : Tree) (dir f : ℕ) (name : List ℕ) (d d' a : Node) (o : Option 
   mode_of_fate : (b : Node) → Fate t f a (Some b) → nat_lt b.mode 0o10000 ≡ true
   mode_of_fate b (less content plain links many mode) = ap (λ (m : ℕ). nat_lt m 0o10000) mode ∙ each-node_at (λ k n. nat_lt n.mode 0o10000) t.nodes f a v.modes g.there
 
-  links_of_fate : (b : Node) → Fate t f a (Some b) → (is_folder b || nat_le b.nlink links_most) ≡ true
+  links_of_fate : (b : Node) → Fate t f a (Some b) → (is_directory b || nat_le b.nlink max_links) ≡ true
   links_of_fate b (less content plain links many mode) =
-      let before : (is_folder a || nat_le a.nlink links_most) ≡ true = each-node_at (λ k n. is_folder n || nat_le n.nlink links_most) t.nodes f a v.links_within g.there in
-      let low : nat_le a.nlink links_most ≡ true = rw plain at before in
-      let most : a.nlink ≤ links_most = leb-true a.nlink links_most low in
-      or_right (is_folder b) (nat_le b.nlink links_most) (le-leb b.nlink links_most (omega arith))
+      let before : (is_directory a || nat_le a.nlink max_links) ≡ true = each-node_at (λ k n. is_directory n || nat_le n.nlink max_links) t.nodes f a v.links_within g.there in
+      let low : nat_le a.nlink max_links ≡ true = rw plain at before in
+      let most : a.nlink ≤ max_links = leb-true a.nlink max_links low in
+      or_right (is_directory b) (nat_le b.nlink max_links) (le-leb b.nlink max_links (omega arith))
 
   -- each entry that is left names a node that is left
   left_there : (x : Option Node) → Fate t f a x → o ≡ x → list_all (λ e. is_some (node_at ms e.fileid)) (all_entries less_tree) ≡ true
@@ -451,21 +451,21 @@ module _ (t : Tree) (dir f : ℕ) (name : List ℕ) (d d' a : Node) (o : Option 
   pub dropped_valid : IsValidTree less_tree
   dropped_valid = record {
     fileids = g.order;
-    root_is_folder = folder_same root f_not_root ∙ v.root_is_folder;
+    root_is_directory = directory_same root f_not_root ∙ v.root_is_directory;
     root_is_top = ap (λ (x : ℕ). x == root) (parent_same root f_not_root) ∙ v.root_is_top;
     entries_name_nodes = left_there o g.fate refl;
     none_names_root = entries_keep (λ e. not (e.fileid == root)) v.none_names_root;
     nodes_have_names = each_less (λ k n. k == root || nat_le 1 (names_of less_tree k)) (node_named dir d g.at dir_apart) (λ b x. or_right (f == root) _ (file_named b x)) (λ k n at e i. node_named k n at i);
-    folders_have_one = each_less (lower (λ k n. names_of less_tree k == 1)) (named_one dir d d' same_folder dir_apart g.at) (plain_lower (λ k n. names_of less_tree k == 1)) (λ k n at e i. named_one k n n refl i at);
-    folders_stand_in_parents = each_less (lower (λ k n. has (the_node less_tree (parent_of n)) k)) (stands dir d d' same_folder g.parent' dir_apart g.at) (plain_lower (λ k n. has (the_node less_tree (parent_of n)) k)) (λ k n at e i. stands k n n refl refl i at);
-    ways_lead_up = each_less (lower (λ k n. is_at_or_below less_tree k root)) (leads_up dir d d' same_folder dir_apart g.at) (plain_lower (λ k n. is_at_or_below less_tree k root)) (λ k n at e i. leads_up k n n refl i at);
-    names_differ = each_again (λ k n. names_test (listing_of n)) v.names_differ (ap names_test g.listing' ∙ distinct-without (entries d) name (each-node_at (λ k n. names_test (listing_of n)) t.nodes dir d v.names_differ g.at)) (of_fate (λ c. names_test (folder_listing c)) (each-node_at (λ k n. names_test (listing_of n)) t.nodes f a v.names_differ g.there));
-    cookies = each_again (λ k n. cookies_test (listing_of n)) v.cookies (ap cookies_test g.listing' ∙ ascends-without (listing_of d).next_cookie (entries d) name (each-node_at (λ k n. cookies_test (listing_of n)) t.nodes dir d v.cookies g.at)) (of_fate (λ c. cookies_test (folder_listing c)) (each-node_at (λ k n. cookies_test (listing_of n)) t.nodes f a v.cookies g.there));
+    directories_have_one = each_less (lower (λ k n. names_of less_tree k == 1)) (named_one dir d d' same_directory dir_apart g.at) (plain_lower (λ k n. names_of less_tree k == 1)) (λ k n at e i. named_one k n n refl i at);
+    directories_stand_in_parents = each_less (lower (λ k n. has (the_node less_tree (parent_of n)) k)) (stands dir d d' same_directory g.parent' dir_apart g.at) (plain_lower (λ k n. has (the_node less_tree (parent_of n)) k)) (λ k n at e i. stands k n n refl refl i at);
+    ways_lead_up = each_less (lower (λ k n. is_at_or_below less_tree k root)) (leads_up dir d d' same_directory dir_apart g.at) (plain_lower (λ k n. is_at_or_below less_tree k root)) (λ k n at e i. leads_up k n n refl i at);
+    names_differ = each_again (λ k n. names_test (listing_of n)) v.names_differ (ap names_test g.listing' ∙ distinct-without (entries d) name (each-node_at (λ k n. names_test (listing_of n)) t.nodes dir d v.names_differ g.at)) (of_fate (λ c. names_test (directory_listing c)) (each-node_at (λ k n. names_test (listing_of n)) t.nodes f a v.names_differ g.there));
+    cookies = each_again (λ k n. cookies_test (listing_of n)) v.cookies (ap cookies_test g.listing' ∙ ascends-without (listing_of d).next_cookie (entries d) name (each-node_at (λ k n. cookies_test (listing_of n)) t.nodes dir d v.cookies g.at)) (of_fate (λ c. cookies_test (directory_listing c)) (each-node_at (λ k n. cookies_test (listing_of n)) t.nodes f a v.cookies g.there));
     links = each_less (λ k n. n.nlink == links_of less_tree k n) (eq-eqb _ _ links_of_dir) (λ b x. eq-eqb _ _ (links_of_file b x)) (λ k n at e i. eq-eqb _ _ (links_before k n at ∙ sym (links_kept k n (rw (g.at_ms k, e, i) at) i)));
     modes = each_again (λ k n. nat_lt n.mode 0o10000) v.modes g.mode' mode_of_fate;
     contents_within = each_again (λ k n. is_within n.content) v.contents_within g.within' (of_fate is_within (each-node_at (λ k n. is_within n.content) t.nodes f a v.contents_within g.there));
-    links_within = each_again (λ k n. is_folder n || nat_le n.nlink links_most) v.links_within (or_left _ _ g.folder') links_of_fate;
-    nodes_within = le-leb (length ms) nodes_most (omega (arith, g.size, leb-true (length t.nodes) nodes_most v.nodes_within));
+    links_within = each_again (λ k n. is_directory n || nat_le n.nlink max_links) v.links_within (or_left _ _ g.directory') links_of_fate;
+    nodes_within = le-leb (length ms) max_nodes (omega (arith, g.size, leb-true (length t.nodes) max_nodes v.nodes_within));
     fileid_within = v.fileid_within;
     volume_within = v.volume_within;
   }

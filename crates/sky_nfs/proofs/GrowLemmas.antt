@@ -8,9 +8,9 @@ use Rattle.std.proofs.lemmas.List.Folds.{list_all-append, list_any-append}
 use Rattle.std.proofs.lemmas.List.{map-append}
 use Rattle.std.proofs.lemmas.List.Sums.{length-filter}
 use Rattle.std.specs.Str.{bytes_eq}
-use Rattle.sky_base.specs.Limits.{nodes_most, fileid_most, links_most}
+use Rattle.sky_base.specs.Limits.{max_nodes, max_fileid, max_links}
 use Rattle.sky_base.specs.Listing.{Listing, Entry, with_entry, fileid_at, new_listing}
-use Rattle.sky_nfs.specs.Tree.{Tree, Node, Content, File, Folder, Link, folder_test, folder_listing, node_at, with_node, the_node, no_node, root, is_folder, listing_of, parent_of, all_entries, names_of, links_of, subfolders, ancestors, is_at_or_below}
+use Rattle.sky_nfs.specs.Tree.{Tree, Node, Content, File, Directory, Link, directory_test, directory_listing, node_at, with_node, the_node, no_node, root, is_directory, listing_of, parent_of, all_entries, names_of, links_of, subdirectories, ancestors, is_at_or_below}
 use Rattle.sky_nfs.specs.Validity.{IsValidTree, ascends_below, are_distinct, is_within, each_node}
 use Rattle.sky_nfs.proofs.ValidityLemmas.{each-node_at, above_all}
 
@@ -229,16 +229,16 @@ cnt_none [] = refl
 cnt_none (x ∷ xs) = cnt_none xs
 
 -- only a directory has entries
-pub folder_of : (q : Entry → Bool) (n : Node) → list_any q (entries n) ≡ true → is_folder n ≡ true
-folder_of q n h = go n.content h
+pub directory_of : (q : Entry → Bool) (n : Node) → list_any q (entries n) ≡ true → is_directory n ≡ true
+directory_of q n h = go n.content h
   where
-    go : (c : Content) → list_any q (folder_listing c).entries ≡ true → folder_test c ≡ true
+    go : (c : Content) → list_any q (directory_listing c).entries ≡ true → directory_test c ≡ true
     go (File bytes) e = absurd (cc)
-    go (Folder parent listing) e = refl
+    go (Directory parent listing) e = refl
     go (Link text) e = absurd (cc)
 
 -- only a node is a directory
-pub there_of : (o : Option Node) → is_folder (unwrap_or o no_node) ≡ true → is_some o ≡ true
+pub there_of : (o : Option Node) → is_directory (unwrap_or o no_node) ≡ true → is_some o ≡ true
 there_of None e = absurd (cc)
 there_of (Some n) e = refl
 
@@ -258,21 +258,21 @@ longer_way t (suc m) k h = go (or_cases (k == root) _ h) (longer_way t m (parent
 -- a directory gets an entry of a new node: what the directory and the node are like then
 pub record Entering (t : Tree) (dir : ℕ) (name : List ℕ) (d d' node : Node) : Type 0 where
   pub at : node_at t.nodes dir ≡ Some d
-  pub folder : is_folder d ≡ true
-  pub folder' : is_folder d' ≡ true
+  pub directory : is_directory d ≡ true
+  pub directory' : is_directory d' ≡ true
   pub parent' : parent_of d' ≡ parent_of d
   pub listing' : listing_of d' ≡ with_entry (listing_of d) name t.next_fileid
-  pub nlink' : d'.nlink ≡ d.nlink + cond (is_folder node) 1 0
+  pub nlink' : d'.nlink ≡ d.nlink + cond (is_directory node) 1 0
   pub mode' : nat_lt d'.mode 0o10000 ≡ true
   pub within' : is_within d'.content ≡ true
   pub free : fileid_at (listing_of d) name ≡ None
   pub listing : listing_of node ≡ new_listing
-  pub parent : is_folder node ≡ true → parent_of node ≡ dir
-  pub nlink : node.nlink ≡ cond (is_folder node) 2 1
+  pub parent : is_directory node ≡ true → parent_of node ≡ dir
+  pub nlink : node.nlink ≡ cond (is_directory node) 2 1
   pub mode : nat_lt node.mode 0o10000 ≡ true
   pub within : is_within node.content ≡ true
-  pub room : length t.nodes < nodes_most
-  pub fileids : t.next_fileid < fileid_most
+  pub room : length t.nodes < max_nodes
+  pub fileids : t.next_fileid < max_fileid
 
 module _ (t : Tree) (dir : ℕ) (name : List ℕ) (d d' node : Node) (v : IsValidTree t) (g : Entering t dir name d d' node) where
   abbrev pub next : ℕ
@@ -330,14 +330,14 @@ module _ (t : Tree) (dir : ℕ) (name : List ℕ) (d d' node : Node) (v : IsVali
       go false e false f = old k n (rw (at_grown k, e, f) at at) e
 
   -- what is at a fileid that isn't the new one
-  folder_same : (k : ℕ) → (next == k) ≡ false → is_folder (the_node grown k) ≡ is_folder (the_node t k)
-  folder_same k f = go (dir == k) refl
+  directory_same : (k : ℕ) → (next == k) ≡ false → is_directory (the_node grown k) ≡ is_directory (the_node t k)
+  directory_same k f = go (dir == k) refl
     where
-      go : (b : Bool) → (dir == k) ≡ b → is_folder (the_node grown k) ≡ is_folder (the_node t k)
+      go : (b : Bool) → (dir == k) ≡ b → is_directory (the_node grown k) ≡ is_directory (the_node t k)
       go true e =
           let key : dir ≡ k = eqb-true dir k e in
           let here : node_at t.nodes k ≡ Some d = subst (λ (j : ℕ). node_at t.nodes j ≡ Some d) key g.at in
-          rw (at_grown k, e, here) (g.folder' ∙ sym g.folder)
+          rw (at_grown k, e, here) (g.directory' ∙ sym g.directory)
       go false e = rw (at_grown k, e, f)
 
   parent_same : (k : ℕ) → (next == k) ≡ false → parent_of (the_node grown k) ≡ parent_of (the_node t k)
@@ -410,38 +410,38 @@ module _ (t : Tree) (dir : ℕ) (name : List ℕ) (d d' node : Node) (v : IsVali
   entries_there : (k : ℕ) (n : Node) → node_at t.nodes k ≡ Some n → list_all (λ e. there e.fileid) (entries n) ≡ true
   entries_there k n at = each-node_at (λ k n. list_all (λ e. there e.fileid) (entries n)) t.nodes k n (sym (each_entry (λ e. there e.fileid) t.nodes) ∙ v.entries_name_nodes) at
 
-  subfolders_kept : (k : ℕ) (n : Node) → node_at t.nodes k ≡ Some n → cnt (λ e. is_folder (the_node grown e.fileid)) (entries n) ≡ cnt (λ e. is_folder (the_node t e.fileid)) (entries n)
-  subfolders_kept k n at = cnt-agree (λ e. there e.fileid) (λ e. is_folder (the_node grown e.fileid)) (λ e. is_folder (the_node t e.fileid)) (λ e h. folder_same e.fileid (next_apart e.fileid h)) (entries n) (entries_there k n at)
+  subdirectories_kept : (k : ℕ) (n : Node) → node_at t.nodes k ≡ Some n → cnt (λ e. is_directory (the_node grown e.fileid)) (entries n) ≡ cnt (λ e. is_directory (the_node t e.fileid)) (entries n)
+  subdirectories_kept k n at = cnt-agree (λ e. there e.fileid) (λ e. is_directory (the_node grown e.fileid)) (λ e. is_directory (the_node t e.fileid)) (λ e h. directory_same e.fileid (next_apart e.fileid h)) (entries n) (entries_there k n at)
 
   links_kept : (k : ℕ) (n : Node) → node_at t.nodes k ≡ Some n → links_of grown k n ≡ links_of t k n
   links_kept k n at =
-      let folders : subfolders grown n ≡ subfolders t n = sym (length-filter _ (entries n)) ∙ subfolders_kept k n at ∙ length-filter _ (entries n) in
+      let directories : subdirectories grown n ≡ subdirectories t n = sym (length-filter _ (entries n)) ∙ subdirectories_kept k n at ∙ length-filter _ (entries n) in
       let names : names_of grown k ≡ names_of t k = names_kept k (next_apart k (rw at)) in
       cc
 
   -- a directory of before, and its parent, are directories
-  parent_is_folder : (k : ℕ) → is_folder (the_node t k) ≡ true → is_folder (the_node t (parent_of (the_node t k))) ≡ true
-  parent_is_folder k f =
+  parent_is_directory : (k : ℕ) → is_directory (the_node t k) ≡ true → is_directory (the_node t (parent_of (the_node t k))) ≡ true
+  parent_is_directory k f =
       let n = some_of (node_at t.nodes k) (there_of (node_at t.nodes k) f) in
       let node_is : the_node t k ≡ n.0 = ap (λ (o : Option Node). unwrap_or o no_node) n.1 in
-      let folder : is_folder n.0 ≡ true = subst (λ (m : Node). is_folder m ≡ true) node_is f in
-      go n.0 node_is folder (cases_Bool (k == root)) (each-node_at (λ k n. not (is_folder n) || k == root || list_any (λ e. e.fileid == k) (entries (the_node t (parent_of n)))) t.nodes k n.0 v.folders_stand_in_parents n.1)
+      let directory : is_directory n.0 ≡ true = subst (λ (m : Node). is_directory m ≡ true) node_is f in
+      go n.0 node_is directory (cases_Bool (k == root)) (each-node_at (λ k n. not (is_directory n) || k == root || list_any (λ e. e.fileid == k) (entries (the_node t (parent_of n)))) t.nodes k n.0 v.directories_stand_in_parents n.1)
     where
-      go : (n : Node) → the_node t k ≡ n → is_folder n ≡ true → ((k == root) ≡ true) ⊎ ((k == root) ≡ false) → (not (is_folder n) || k == root || list_any (λ e. e.fileid == k) (entries (the_node t (parent_of n)))) ≡ true → is_folder (the_node t (parent_of (the_node t k))) ≡ true
-      go n same folder (inl top) stands =
+      go : (n : Node) → the_node t k ≡ n → is_directory n ≡ true → ((k == root) ≡ true) ⊎ ((k == root) ≡ false) → (not (is_directory n) || k == root || list_any (λ e. e.fileid == k) (entries (the_node t (parent_of n)))) ≡ true → is_directory (the_node t (parent_of (the_node t k))) ≡ true
+      go n same directory (inl top) stands =
           let is_root : k ≡ root = eqb-true k root top in
           let up : parent_of (the_node t root) ≡ root = eqb-true _ root v.root_is_top in
           let here : parent_of (the_node t k) ≡ root = subst (λ (j : ℕ). parent_of (the_node t j) ≡ root) (sym is_root) up in
-          rw here v.root_is_folder
-      go n same folder (inr lower) stands =
-          let holds : list_any (λ e. e.fileid == k) (entries (the_node t (parent_of n))) ≡ true = rw (folder, lower) at stands in
-          rw same (folder_of (λ e. e.fileid == k) (the_node t (parent_of n)) holds)
+          rw here v.root_is_directory
+      go n same directory (inr lower) stands =
+          let holds : list_any (λ e. e.fileid == k) (entries (the_node t (parent_of n))) ≡ true = rw (directory, lower) at stands in
+          rw same (directory_of (λ e. e.fileid == k) (the_node t (parent_of n)) holds)
 
-  way_kept : (m k : ℕ) → is_folder (the_node t k) ≡ true → ancestors grown m k ≡ ancestors t m k
+  way_kept : (m k : ℕ) → is_directory (the_node t k) ≡ true → ancestors grown m k ≡ ancestors t m k
   way_kept zero k f = refl
   way_kept (suc m) k f =
       let up : parent_of (the_node grown k) ≡ parent_of (the_node t k) = parent_same k (next_apart k (there_of (node_at t.nodes k) f)) in
-      rw up (ap (λ (r : List ℕ). k ∷ r) (way_kept m (parent_of (the_node t k)) (parent_is_folder k f)))
+      rw up (ap (λ (r : List ℕ). k ∷ r) (way_kept m (parent_of (the_node t k)) (parent_is_directory k f)))
 
   count_grown : length grown.nodes ≡ suc (length t.nodes)
   count_grown =
@@ -463,27 +463,27 @@ module _ (t : Tree) (dir : ℕ) (name : List ℕ) (d d' node : Node) (v : IsVali
           let before : has d k ≡ true = rw here at h in
           rw (at_grown p, e, entries', list_any-append) (or_left _ _ before)
       go false e (inl f) =
-          let folder : is_folder (the_node t p) ≡ true = folder_of (λ e. e.fileid == k) (the_node t p) h in
-          absurd (false≢true (sym (next_apart p (there_of (node_at t.nodes p) folder)) ∙ f))
+          let directory : is_directory (the_node t p) ≡ true = directory_of (λ e. e.fileid == k) (the_node t p) h in
+          absurd (false≢true (sym (next_apart p (there_of (node_at t.nodes p) directory)) ∙ f))
       go false e (inr f) = rw (at_grown p, e, f) h
 
   -- a node of before whose test for directories below the root holds in the tree of before
   abbrev lower : (ℕ → Node → Bool) → ℕ → Node → Bool
-  lower p k n = not (is_folder n) || k == root || p k n
+  lower p k n = not (is_directory n) || k == root || p k n
 
-  lower_from : (p q : ℕ → Node → Bool) (k : ℕ) (n m : Node) → is_folder n ≡ is_folder m → (is_folder n ≡ true → p k n ≡ true → q k m ≡ true) → lower p k n ≡ true → lower q k m ≡ true
-  lower_from p q k n m same imp h = go (is_folder n) refl (or_cases _ (p k n) h)
+  lower_from : (p q : ℕ → Node → Bool) (k : ℕ) (n m : Node) → is_directory n ≡ is_directory m → (is_directory n ≡ true → p k n ≡ true → q k m ≡ true) → lower p k n ≡ true → lower q k m ≡ true
+  lower_from p q k n m same imp h = go (is_directory n) refl (or_cases _ (p k n) h)
     where
-      go : (b : Bool) → is_folder n ≡ b → ((not (is_folder n) || k == root) ≡ true) ⊎ (p k n ≡ true) → lower q k m ≡ true
+      go : (b : Bool) → is_directory n ≡ b → ((not (is_directory n) || k == root) ≡ true) ⊎ (p k n ≡ true) → lower q k m ≡ true
       go b e (inl first) = or_left _ _ (rw same at first)
       go true e (inr second) = or_right _ _ (imp e second)
-      go false e (inr second) = let out : is_folder m ≡ false = sym same ∙ e in or_left (not (is_folder m) || k == root) (q k m) (or_left (not (is_folder m)) (k == root) (rw out))
+      go false e (inr second) = let out : is_directory m ≡ false = sym same ∙ e in or_left (not (is_directory m) || k == root) (q k m) (or_left (not (is_directory m)) (k == root) (rw out))
 
-  way_up_kept : (k : ℕ) (n : Node) → node_at t.nodes k ≡ Some n → is_folder n ≡ true → is_at_or_below t k root ≡ true → is_at_or_below grown k root ≡ true
+  way_up_kept : (k : ℕ) (n : Node) → node_at t.nodes k ≡ Some n → is_directory n ≡ true → is_at_or_below t k root ≡ true → is_at_or_below grown k root ≡ true
   way_up_kept k n at f h =
       let node_is : the_node t k ≡ n = ap (λ (o : Option Node). unwrap_or o no_node) at in
-      let folder : is_folder (the_node t k) ≡ true = ap is_folder node_is ∙ f in
-      let long : list_any (λ x. x == root) (ancestors grown (suc (length t.nodes)) k) ≡ true = ap (list_any (λ x. x == root)) (way_kept (suc (length t.nodes)) k folder) ∙ longer_way t (length t.nodes) k h in
+      let directory : is_directory (the_node t k) ≡ true = ap is_directory node_is ∙ f in
+      let long : list_any (λ x. x == root) (ancestors grown (suc (length t.nodes)) k) ≡ true = ap (list_any (λ x. x == root)) (way_kept (suc (length t.nodes)) k directory) ∙ longer_way t (length t.nodes) k h in
       subst (λ (m : ℕ). list_any (λ x. x == root) (ancestors grown m k) ≡ true) (sym count_grown) long
 
   -- the directory's own way up
@@ -496,7 +496,7 @@ module _ (t : Tree) (dir : ℕ) (name : List ℕ) (d d' node : Node) (v : IsVali
 
       go : ((dir == root) ≡ true) ⊎ ((dir == root) ≡ false) → lower (λ k n. is_at_or_below t k root) dir d ≡ true → list_any (λ d. d == root) (ancestors t (length t.nodes) dir) ≡ true
       go (inl e) h = some_node t.nodes g.at e
-      go (inr e) h = rw (g.folder, e) at h
+      go (inr e) h = rw (g.directory, e) at h
 
   -- a test of fileids and nodes holds of each node of the grown tree
   each_grown : (p : ℕ → Node → Bool) → p dir d' ≡ true → p next node ≡ true → ((k : ℕ) (n : Node) → node_at t.nodes k ≡ Some n → (dir == k) ≡ false → p k n ≡ true) → list_all (λ n. p n.0 n.1) grown.nodes ≡ true
@@ -509,15 +509,15 @@ module _ (t : Tree) (dir : ℕ) (name : List ℕ) (d d' node : Node) (v : IsVali
   -- the links of the directory and of the new node
   links_of_dir : d'.nlink ≡ links_of grown dir d'
   links_of_dir =
-      let q : Entry → Bool = λ e. is_folder (the_node grown e.fileid) in
+      let q : Entry → Bool = λ e. is_directory (the_node grown e.fileid) in
       let before : d.nlink ≡ links_of t dir d = eqb-true _ _ (each-node_at (λ k n. n.nlink == links_of t k n) t.nodes dir d v.links g.at) in
-      let counted : links_of t dir d ≡ 2 + subfolders t d = rw g.folder in
-      let kept : subfolders t d ≡ cnt q (entries d) = sym (length-filter _ (entries d)) ∙ sym (subfolders_kept dir d g.at) in
-      let now : links_of grown dir d' ≡ 2 + subfolders grown d' = rw g.folder' in
-      let all : subfolders grown d' ≡ cnt q (entries d') = sym (length-filter q (entries d')) in
+      let counted : links_of t dir d ≡ 2 + subdirectories t d = rw g.directory in
+      let kept : subdirectories t d ≡ cnt q (entries d) = sym (length-filter _ (entries d)) ∙ sym (subdirectories_kept dir d g.at) in
+      let now : links_of grown dir d' ≡ 2 + subdirectories grown d' = rw g.directory' in
+      let all : subdirectories grown d' ≡ cnt q (entries d') = sym (length-filter q (entries d')) in
       let more : cnt q (entries d') ≡ cnt q (entries d) + cnt q (entered ∷ []) = rw entries' (cnt-append q (entries d) (entered ∷ [])) in
       let new : the_node grown next ≡ node = new_node_at in
-      let one : cnt q (entered ∷ []) ≡ cond (is_folder node) 1 0 = rw new (single (is_folder node)) in
+      let one : cnt q (entered ∷ []) ≡ cond (is_directory node) 1 0 = rw new (single (is_directory node)) in
       omega (arith, g.nlink')
     where
       single : (b : Bool) → length (cond b (entered ∷ []) []) ≡ cond b 1 0
@@ -531,26 +531,26 @@ module _ (t : Tree) (dir : ℕ) (name : List ℕ) (d d' node : Node) (v : IsVali
       new_node_at = rw (at_grown next, dir_apart, eq-eqb next next refl)
 
   links_of_new : node.nlink ≡ links_of grown next node
-  links_of_new = go (is_folder node) refl
+  links_of_new = go (is_directory node) refl
     where
-      none : subfolders grown node ≡ 0
-      none = sym (length-filter _ (entries node)) ∙ ap (cnt (λ e. is_folder (the_node grown e.fileid))) no_entries
+      none : subdirectories grown node ≡ 0
+      none = sym (length-filter _ (entries node)) ∙ ap (cnt (λ e. is_directory (the_node grown e.fileid))) no_entries
 
-      go : (b : Bool) → is_folder node ≡ b → node.nlink ≡ links_of grown next node
+      go : (b : Bool) → is_directory node ≡ b → node.nlink ≡ links_of grown next node
       go true e =
           let left : node.nlink ≡ 2 = g.nlink ∙ ap (λ (b : Bool). cond b 2 1) e in
-          let right : links_of grown next node ≡ 2 + subfolders grown node = rw e in
+          let right : links_of grown next node ≡ 2 + subdirectories grown node = rw e in
           omega (arith, none)
       go false e =
           let left : node.nlink ≡ 1 = g.nlink ∙ ap (λ (b : Bool). cond b 2 1) e in
           let right : links_of grown next node ≡ names_of grown next = rw e in
           omega (arith, named_once)
 
-  same_folder : is_folder d ≡ is_folder d'
-  same_folder = g.folder ∙ sym g.folder'
+  same_directory : is_directory d ≡ is_directory d'
+  same_directory = g.directory ∙ sym g.directory'
 
   root_there : there root ≡ true
-  root_there = there_of (node_at t.nodes root) v.root_is_folder
+  root_there = there_of (node_at t.nodes root) v.root_is_directory
 
   node_named : (k : ℕ) (n : Node) → node_at t.nodes k ≡ Some n → (k == root || nat_le 1 (names_of grown k)) ≡ true
   node_named k n at = ap (λ (m : ℕ). k == root || nat_le 1 m) (names_kept k (next_apart k (rw at))) ∙ each-node_at (λ k n. k == root || nat_le 1 (names_of t k)) t.nodes k n v.nodes_have_names at
@@ -558,44 +558,44 @@ module _ (t : Tree) (dir : ℕ) (name : List ℕ) (d d' node : Node) (v : IsVali
   none_root : (k : ℕ) (n : Node) → node_at t.nodes k ≡ Some n → list_all (λ e. not (e.fileid == root)) (entries n) ≡ true
   none_root k n at = each-node_at (λ k n. list_all (λ e. not (e.fileid == root)) (entries n)) t.nodes k n (sym (each_entry (λ e. not (e.fileid == root)) t.nodes) ∙ v.none_names_root) at
 
-  named_one : (k : ℕ) (n m : Node) → is_folder n ≡ is_folder m → node_at t.nodes k ≡ Some n → lower (λ k n. names_of grown k == 1) k m ≡ true
-  named_one k n m same at = lower_from (λ k n. names_of t k == 1) (λ k n. names_of grown k == 1) k n m same (λ f h. ap (λ (x : ℕ). x == 1) (names_kept k (next_apart k (rw at))) ∙ h) (each-node_at (lower (λ k n. names_of t k == 1)) t.nodes k n v.folders_have_one at)
+  named_one : (k : ℕ) (n m : Node) → is_directory n ≡ is_directory m → node_at t.nodes k ≡ Some n → lower (λ k n. names_of grown k == 1) k m ≡ true
+  named_one k n m same at = lower_from (λ k n. names_of t k == 1) (λ k n. names_of grown k == 1) k n m same (λ f h. ap (λ (x : ℕ). x == 1) (names_kept k (next_apart k (rw at))) ∙ h) (each-node_at (lower (λ k n. names_of t k == 1)) t.nodes k n v.directories_have_one at)
 
-  stands : (k : ℕ) (n m : Node) → is_folder n ≡ is_folder m → parent_of m ≡ parent_of n → node_at t.nodes k ≡ Some n → lower (λ k n. has (the_node grown (parent_of n)) k) k m ≡ true
-  stands k n m same up at = lower_from (λ k n. has (the_node t (parent_of n)) k) (λ k n. has (the_node grown (parent_of n)) k) k n m same (λ f h. subst (λ (p : ℕ). has (the_node grown p) k ≡ true) (sym up) (has_kept (parent_of n) k h)) (each-node_at (lower (λ k n. has (the_node t (parent_of n)) k)) t.nodes k n v.folders_stand_in_parents at)
+  stands : (k : ℕ) (n m : Node) → is_directory n ≡ is_directory m → parent_of m ≡ parent_of n → node_at t.nodes k ≡ Some n → lower (λ k n. has (the_node grown (parent_of n)) k) k m ≡ true
+  stands k n m same up at = lower_from (λ k n. has (the_node t (parent_of n)) k) (λ k n. has (the_node grown (parent_of n)) k) k n m same (λ f h. subst (λ (p : ℕ). has (the_node grown p) k ≡ true) (sym up) (has_kept (parent_of n) k h)) (each-node_at (lower (λ k n. has (the_node t (parent_of n)) k)) t.nodes k n v.directories_stand_in_parents at)
 
-  leads_up : (k : ℕ) (n m : Node) → is_folder n ≡ is_folder m → node_at t.nodes k ≡ Some n → lower (λ k n. is_at_or_below grown k root) k m ≡ true
+  leads_up : (k : ℕ) (n m : Node) → is_directory n ≡ is_directory m → node_at t.nodes k ≡ Some n → lower (λ k n. is_at_or_below grown k root) k m ≡ true
   leads_up k n m same at = lower_from (λ k n. is_at_or_below t k root) (λ k n. is_at_or_below grown k root) k n m same (λ f h. way_up_kept k n at f h) (each-node_at (lower (λ k n. is_at_or_below t k root)) t.nodes k n v.ways_lead_up at)
 
   -- of the new node, a test that concerns directories
-  new_lower : (p : ℕ → Node → Bool) → (is_folder node ≡ true → p next node ≡ true) → lower p next node ≡ true
-  new_lower p h = go (is_folder node) refl
+  new_lower : (p : ℕ → Node → Bool) → (is_directory node ≡ true → p next node ≡ true) → lower p next node ≡ true
+  new_lower p h = go (is_directory node) refl
     where
-      go : (b : Bool) → is_folder node ≡ b → lower p next node ≡ true
+      go : (b : Bool) → is_directory node ≡ b → lower p next node ≡ true
       go true e = or_right _ _ (h e)
-      go false e = or_left (not (is_folder node) || next == root) (p next node) (or_left (not (is_folder node)) (next == root) (rw e))
+      go false e = or_left (not (is_directory node) || next == root) (p next node) (or_left (not (is_directory node)) (next == root) (rw e))
 
-  new_stands : is_folder node ≡ true → has (the_node grown (parent_of node)) next ≡ true
+  new_stands : is_directory node ≡ true → has (the_node grown (parent_of node)) next ≡ true
   new_stands f = rw (g.parent f, at_grown dir, eq-eqb dir dir refl, entries', list_any-append) (or_right _ _ (or_left _ _ (eq-eqb next next refl)))
 
-  new_leads_up : is_folder node ≡ true → is_at_or_below grown next root ≡ true
+  new_leads_up : is_directory node ≡ true → is_at_or_below grown next root ≡ true
   new_leads_up f =
       let apart : (dir == next) ≡ false = ne_eqb dir next (λ e. eqb-false next dir (next_apart dir there_dir) (sym e)) in
       let at : the_node grown next ≡ node = rw (at_grown next, apart, eq-eqb next next refl) in
       let up : parent_of (the_node grown next) ≡ dir = ap parent_of at ∙ g.parent f in
-      let folder : is_folder (the_node t dir) ≡ true = ap is_folder (ap (λ (o : Option Node). unwrap_or o no_node) g.at) ∙ g.folder in
-      let way : list_any (λ x. x == root) (ancestors grown (length t.nodes) dir) ≡ true = ap (list_any (λ x. x == root)) (way_kept (length t.nodes) dir folder) ∙ way_of_dir in
+      let directory : is_directory (the_node t dir) ≡ true = ap is_directory (ap (λ (o : Option Node). unwrap_or o no_node) g.at) ∙ g.directory in
+      let way : list_any (λ x. x == root) (ancestors grown (length t.nodes) dir) ≡ true = ap (list_any (λ x. x == root)) (way_kept (length t.nodes) dir directory) ∙ way_of_dir in
       let above : list_any (λ x. x == root) (ancestors grown (length t.nodes) (parent_of (the_node grown next))) ≡ true = subst (λ (j : ℕ). list_any (λ x. x == root) (ancestors grown (length t.nodes) j) ≡ true) (sym up) way in
       subst (λ (m : ℕ). list_any (λ x. x == root) (ancestors grown m next) ≡ true) (sym count_grown) (or_right (next == root) _ above)
 
-  new_links : (is_folder node || nat_le node.nlink links_most) ≡ true
-  new_links = go (is_folder node) refl
+  new_links : (is_directory node || nat_le node.nlink max_links) ≡ true
+  new_links = go (is_directory node) refl
     where
-      go : (b : Bool) → is_folder node ≡ b → (is_folder node || nat_le node.nlink links_most) ≡ true
+      go : (b : Bool) → is_directory node ≡ b → (is_directory node || nat_le node.nlink max_links) ≡ true
       go true e = or_left _ _ e
       go false e =
           let one : node.nlink ≡ 1 = g.nlink ∙ ap (λ (b : Bool). cond b 2 1) e in
-          or_right (is_folder node) (nat_le node.nlink links_most) (le-leb node.nlink links_most (omega arith))
+          or_right (is_directory node) (nat_le node.nlink max_links) (le-leb node.nlink max_links (omega arith))
 
   cookies_of_dir : ascends_below (listing_of d').next_cookie (map (λ e. e.cookie) (entries d')) ≡ true
   cookies_of_dir =
@@ -618,20 +618,20 @@ module _ (t : Tree) (dir : ℕ) (name : List ℕ) (d d' node : Node) (v : IsVali
   pub grown_valid : IsValidTree grown
   grown_valid = record {
     fileids = order;
-    root_is_folder = folder_same root (next_apart root root_there) ∙ v.root_is_folder;
+    root_is_directory = directory_same root (next_apart root root_there) ∙ v.root_is_directory;
     root_is_top = rw (parent_same root (next_apart root root_there)) v.root_is_top;
     entries_name_nodes = each_entry (λ e. is_some (node_at grown.nodes e.fileid)) grown.nodes ∙ each_grown (λ k n. list_all (λ e. is_some (node_at grown.nodes e.fileid)) (entries n)) entries_of_dir (rw no_entries) (λ k n at apart. entries_weaken (λ e. there e.fileid) (λ e. is_some (node_at grown.nodes e.fileid)) (λ e h. grown_there e.fileid h) (entries n) (entries_there k n at));
     none_names_root = each_entry (λ e. not (e.fileid == root)) grown.nodes ∙ each_grown (λ k n. list_all (λ e. not (e.fileid == root)) (entries n)) none_root_of_dir (rw no_entries) (λ k n at apart. none_root k n at);
     nodes_have_names = each_grown (λ k n. k == root || nat_le 1 (names_of grown k)) (node_named dir d g.at) (or_right _ _ (ap (nat_le 1) named_once)) (λ k n at apart. node_named k n at);
-    folders_have_one = each_grown (lower (λ k n. names_of grown k == 1)) (named_one dir d d' same_folder g.at) (or_right _ _ (eq-eqb _ _ named_once)) (λ k n at apart. named_one k n n refl at);
-    folders_stand_in_parents = each_grown (lower (λ k n. has (the_node grown (parent_of n)) k)) (stands dir d d' same_folder g.parent' g.at) (new_lower (λ k n. has (the_node grown (parent_of n)) k) new_stands) (λ k n at apart. stands k n n refl refl at);
-    ways_lead_up = each_grown (lower (λ k n. is_at_or_below grown k root)) (leads_up dir d d' same_folder g.at) (new_lower (λ k n. is_at_or_below grown k root) new_leads_up) (λ k n at apart. leads_up k n n refl at);
+    directories_have_one = each_grown (lower (λ k n. names_of grown k == 1)) (named_one dir d d' same_directory g.at) (or_right _ _ (eq-eqb _ _ named_once)) (λ k n at apart. named_one k n n refl at);
+    directories_stand_in_parents = each_grown (lower (λ k n. has (the_node grown (parent_of n)) k)) (stands dir d d' same_directory g.parent' g.at) (new_lower (λ k n. has (the_node grown (parent_of n)) k) new_stands) (λ k n at apart. stands k n n refl refl at);
+    ways_lead_up = each_grown (lower (λ k n. is_at_or_below grown k root)) (leads_up dir d d' same_directory g.at) (new_lower (λ k n. is_at_or_below grown k root) new_leads_up) (λ k n at apart. leads_up k n n refl at);
     names_differ = each_again (λ k n. are_distinct (map (λ e. e.name) (entries n))) v.names_differ names_of_dir (rw no_entries);
     cookies = each_again (λ k n. ascends_below (listing_of n).next_cookie (map (λ e. e.cookie) (entries n))) v.cookies cookies_of_dir (subst (λ (l : Listing). ascends_below l.next_cookie (map (λ e. e.cookie) l.entries) ≡ true) (sym g.listing) refl);
     links = each_grown (λ k n. n.nlink == links_of grown k n) (eq-eqb _ _ links_of_dir) (eq-eqb _ _ links_of_new) (λ k n at apart. eq-eqb _ _ (eqb-true _ _ (each-node_at (λ k n. n.nlink == links_of t k n) t.nodes k n v.links at) ∙ sym (links_kept k n at)));
     modes = each_again (λ k n. nat_lt n.mode 0o10000) v.modes g.mode' g.mode;
     contents_within = each_again (λ k n. is_within n.content) v.contents_within g.within' g.within;
-    links_within = each_again (λ k n. is_folder n || nat_le n.nlink links_most) v.links_within (or_left _ _ g.folder') new_links;
+    links_within = each_again (λ k n. is_directory n || nat_le n.nlink max_links) v.links_within (or_left _ _ g.directory') new_links;
     nodes_within = le-leb _ _ (omega (arith, count_grown, g.room));
     fileid_within = le-leb _ _ (omega (arith, g.fileids));
     volume_within = v.volume_within;

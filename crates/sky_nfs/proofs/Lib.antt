@@ -2,6 +2,7 @@ mod Checks
 pub mod CarryLemmas
 pub mod CreateLemmas
 pub mod DropLemmas
+pub mod EpochLemmas
 pub mod GrowLemmas
 pub mod HandleLemmas
 pub mod KeptLemmas

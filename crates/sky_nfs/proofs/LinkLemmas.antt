@@ -6,29 +6,29 @@ use Rattle.std.proofs.lemmas.Bool.{and_from, eqb-true, eq-eqb, ne_eqb, ltb-false
 use Rattle.std.proofs.lemmas.List.{map-append}
 use Rattle.std.proofs.lemmas.List.Folds.{list_all-append, list_any-append}
 use Rattle.std.proofs.lemmas.List.Sums.{length-filter}
-use Rattle.sky_base.specs.Limits.{links_most, nodes_most, name_most, directory_most, cookie_most}
+use Rattle.sky_base.specs.Limits.{max_links, max_nodes, max_name_bytes, max_directory_bytes, max_cookie}
 use Rattle.sky_base.specs.Listing.{Listing, Entry, with_entry, fileid_at, size_of_listing, size_of_name}
 use Rattle.sky_base.specs.declared.cred.Cred.{Cred}
 use Rattle.sky_base.specs.declared.moment.Moment.{Moment}
-use Rattle.sky_nfs.specs.declared.call.At.{At}
+use Rattle.sky_nfs.specs.declared.call.DirOpArgs.{DirOpArgs}
 use Rattle.sky_nfs.specs.declared.call.Call.{Call}
 use Rattle.sky_nfs.specs.Changes.{put, edit, stamp, add_link, enter}
 use Rattle.sky_nfs.specs.Handles.{fileid_in}
 use Rattle.sky_nfs.specs.Laws.{KeepsValid}
 use Rattle.sky_nfs.specs.Procedure.{refusal_of, rules_of, changed_tree}
 use Rattle.sky_nfs.specs.Procedures.Link.{link_rules, link_tree}
-use Rattle.sky_nfs.specs.Tree.{Tree, Node, node_at, with_node, the_node, no_node, root, is_folder, folder_test, folder_parent, folder_listing, listing_of, parent_of, named, all_entries, names_of, links_of, subfolders, ancestors, is_at_or_below}
+use Rattle.sky_nfs.specs.Tree.{Tree, Node, node_at, with_node, the_node, no_node, root, is_directory, directory_test, directory_parent, directory_listing, listing_of, parent_of, named, all_entries, names_of, links_of, subdirectories, ancestors, is_at_or_below}
 use Rattle.sky_nfs.specs.Validity.{IsValidTree, ascends_below, are_distinct, is_within, each_node}
 use Rattle.sky_nfs.proofs.ValidityLemmas.{each-node_at, agree}
 use Rattle.sky_nfs.proofs.KeptLemmas.{AllPassed, passed, is_there, kept}
 use Rattle.sky_nfs.proofs.GrowLemmas.{keys, entries, cnt, total, cnt-append, total_lem, each-of, keys-put, length-put, total-put, ascends-push, distinct-push, not_found, each_entry, entries_weaken, node_at-with_node}
-use Rattle.sky_nfs.proofs.CreateLemmas.{folder-with_listing, parent-with_listing, listing-with_listing, within-with_entry, folder_there, none_of}
+use Rattle.sky_nfs.proofs.CreateLemmas.{directory-with_listing, parent-with_listing, listing-with_listing, within-with_entry, directory_there, none_of}
 
 -- a directory gets an entry of a node that is there and no directory: what both are like then
 pub record Linking (t : Tree) (dir file : ℕ) (name : List ℕ) (d d' a a' : Node) : Type 0 where
   pub at : node_at t.nodes dir ≡ Some d
-  pub folder : is_folder d ≡ true
-  pub folder' : is_folder d' ≡ true
+  pub directory : is_directory d ≡ true
+  pub directory' : is_directory d' ≡ true
   pub parent' : parent_of d' ≡ parent_of d
   pub listing' : listing_of d' ≡ with_entry (listing_of d) name file
   pub nlink' : d'.nlink ≡ d.nlink
@@ -37,10 +37,10 @@ pub record Linking (t : Tree) (dir file : ℕ) (name : List ℕ) (d d' a a' : No
   pub free : fileid_at (listing_of d) name ≡ None
   pub there : node_at t.nodes file ≡ Some a
   pub content : a'.content ≡ a.content
-  pub plain : is_folder a ≡ false
+  pub plain : is_directory a ≡ false
   pub more : a'.nlink ≡ a.nlink + 1
   pub mode : a'.mode ≡ a.mode
-  pub room : a.nlink < links_most
+  pub room : a.nlink < max_links
 
 module _ (t : Tree) (dir file : ℕ) (name : List ℕ) (d d' a a' : Node) (v : IsValidTree t) (g : Linking t dir file name d d' a a') where
   abbrev mid : List (ℕ × Node)
@@ -49,8 +49,8 @@ module _ (t : Tree) (dir file : ℕ) (name : List ℕ) (d d' a a' : Node) (v : I
   abbrev linked : Tree
   linked = record t { nodes = with_node mid dir d' }
 
-  plain' : is_folder a' ≡ false
-  plain' = ap folder_test g.content ∙ g.plain
+  plain' : is_directory a' ≡ false
+  plain' = ap directory_test g.content ∙ g.plain
 
   apart : (file == dir) ≡ false
   apart = ne_eqb file dir (λ e. clash (subst (λ (k : ℕ). node_at t.nodes k ≡ Some a) e g.there))
@@ -59,8 +59,8 @@ module _ (t : Tree) (dir file : ℕ) (name : List ℕ) (d d' a a' : Node) (v : I
       clash h =
           let both : Some a ≡ Some d = sym h ∙ g.at in
           let same : a ≡ d = cc in
-          let folder : is_folder a ≡ true = subst (λ (n : Node). is_folder n ≡ true) (sym same) g.folder in
-          false≢true (sym g.plain ∙ folder)
+          let directory : is_directory a ≡ true = subst (λ (n : Node). is_directory n ≡ true) (sym same) g.directory in
+          false≢true (sym g.plain ∙ directory)
 
   mid_at : node_at mid dir ≡ Some d
   mid_at = rw (node_at-with_node t.nodes file a' dir, apart) g.at
@@ -103,11 +103,11 @@ module _ (t : Tree) (dir file : ℕ) (name : List ℕ) (d d' a a' : Node) (v : I
       go false e true i = new ∙ ap f (sym (subst (λ (j : ℕ). node_at t.nodes j ≡ Some a) (eqb-true file k i) g.there))
       go false e false i = refl
 
-  folder_same : (k : ℕ) → is_folder (the_node linked k) ≡ is_folder (the_node t k)
-  folder_same = same_at (λ o. is_folder (unwrap_or o no_node)) (g.folder' ∙ sym g.folder) (plain' ∙ sym g.plain)
+  directory_same : (k : ℕ) → is_directory (the_node linked k) ≡ is_directory (the_node t k)
+  directory_same = same_at (λ o. is_directory (unwrap_or o no_node)) (g.directory' ∙ sym g.directory) (plain' ∙ sym g.plain)
 
   parent_same : (k : ℕ) → parent_of (the_node linked k) ≡ parent_of (the_node t k)
-  parent_same = same_at (λ o. parent_of (unwrap_or o no_node)) g.parent' (ap folder_parent g.content)
+  parent_same = same_at (λ o. parent_of (unwrap_or o no_node)) g.parent' (ap directory_parent g.content)
 
   there_same : (k : ℕ) → is_some (node_at linked.nodes k) ≡ is_some (node_at t.nodes k)
   there_same = same_at is_some refl refl
@@ -126,7 +126,7 @@ module _ (t : Tree) (dir file : ℕ) (name : List ℕ) (d d' a a' : Node) (v : I
   entries' = ap (λ (l : Listing). l.entries) g.listing'
 
   entries_same : entries a' ≡ entries a
-  entries_same = ap (λ (c : Rattle.sky_nfs.specs.Tree.Content). (folder_listing c).entries) g.content
+  entries_same = ap (λ (c : Rattle.sky_nfs.specs.Tree.Content). (directory_listing c).entries) g.content
 
   names_linked : (k : ℕ) → names_of linked k ≡ names_of t k + cond (file == k) 1 0
   names_linked k =
@@ -147,28 +147,28 @@ module _ (t : Tree) (dir file : ℕ) (name : List ℕ) (d d' a a' : Node) (v : I
   names_kept : (k : ℕ) → (file == k) ≡ false → names_of linked k ≡ names_of t k
   names_kept k f = let e : names_of linked k ≡ names_of t k + 0 = rw (names_linked k, f) in omega arith
 
-  tests_same : ◌≡◌ {A = Entry → Bool} (λ e. is_folder (the_node linked e.fileid)) (λ e. is_folder (the_node t e.fileid))
-  tests_same = agree (λ e. folder_same e.fileid)
+  tests_same : ◌≡◌ {A = Entry → Bool} (λ e. is_directory (the_node linked e.fileid)) (λ e. is_directory (the_node t e.fileid))
+  tests_same = agree (λ e. directory_same e.fileid)
 
-  subfolders_same : (n : Node) → subfolders linked n ≡ subfolders t n
-  subfolders_same n = ap (λ (test : Entry → Bool). count_by test (entries n)) tests_same
+  subdirectories_same : (n : Node) → subdirectories linked n ≡ subdirectories t n
+  subdirectories_same n = ap (λ (test : Entry → Bool). count_by test (entries n)) tests_same
 
   links_kept : (k : ℕ) (n : Node) → (file == k) ≡ false → links_of linked k n ≡ links_of t k n
-  links_kept k n f = cc (names_kept k f, subfolders_same n)
+  links_kept k n f = cc (names_kept k f, subdirectories_same n)
 
   links_before : (k : ℕ) (n : Node) → node_at t.nodes k ≡ Some n → n.nlink ≡ links_of t k n
   links_before k n at = eqb-true _ _ (each-node_at (λ k n. n.nlink == links_of t k n) t.nodes k n v.links at)
 
-  file_plain : is_folder (the_node linked file) ≡ false
-  file_plain = folder_same file ∙ ap (λ (o : Option Node). is_folder (unwrap_or o no_node)) g.there ∙ g.plain
+  file_plain : is_directory (the_node linked file) ≡ false
+  file_plain = directory_same file ∙ ap (λ (o : Option Node). is_directory (unwrap_or o no_node)) g.there ∙ g.plain
 
   links_of_dir : d'.nlink ≡ links_of linked dir d'
   links_of_dir =
-      let q : Entry → Bool = λ e. is_folder (the_node linked e.fileid) in
-      let counted : links_of t dir d ≡ 2 + subfolders t d = rw g.folder in
-      let now : links_of linked dir d' ≡ 2 + subfolders linked d' = rw g.folder' in
-      let kept : cnt q (entries d) ≡ subfolders t d = length-filter q (entries d) ∙ subfolders_same d in
-      let all : cnt q (entries d') ≡ subfolders linked d' = length-filter q (entries d') in
+      let q : Entry → Bool = λ e. is_directory (the_node linked e.fileid) in
+      let counted : links_of t dir d ≡ 2 + subdirectories t d = rw g.directory in
+      let now : links_of linked dir d' ≡ 2 + subdirectories linked d' = rw g.directory' in
+      let kept : cnt q (entries d) ≡ subdirectories t d = length-filter q (entries d) ∙ subdirectories_same d in
+      let all : cnt q (entries d') ≡ subdirectories linked d' = length-filter q (entries d') in
       let more : cnt q (entries d') ≡ cnt q (entries d) + cnt q (entered ∷ []) = rw entries' (cnt-append q (entries d) (entered ∷ [])) in
       let none : cnt q (entered ∷ []) ≡ 0 = rw file_plain in
       omega (arith, links_before dir d g.at, g.nlink')
@@ -198,7 +198,7 @@ module _ (t : Tree) (dir file : ℕ) (name : List ℕ) (d d' a a' : Node) (v : I
       each_entry q linked.nodes ∙ each_again (each_of q) each (rw (entries', list_all-append) (and_from _ _ of_dir (and_from _ _ new refl))) (ap (list_all q) entries_same ∙ of_file)
 
   file_apart_root : not (file == root) ≡ true
-  file_apart_root = not_from_false _ (ne_eqb file root (λ e. false≢true (sym (subst (λ (k : ℕ). is_folder (the_node t k) ≡ false) e (ap (λ (o : Option Node). is_folder (unwrap_or o no_node)) g.there ∙ g.plain)) ∙ v.root_is_folder)))
+  file_apart_root = not_from_false _ (ne_eqb file root (λ e. false≢true (sym (subst (λ (k : ℕ). is_directory (the_node t k) ≡ false) e (ap (λ (o : Option Node). is_directory (unwrap_or o no_node)) g.there ∙ g.plain)) ∙ v.root_is_directory)))
 
   node_named : (k : ℕ) (n : Node) → node_at t.nodes k ≡ Some n → (file == k) ≡ false → (k == root || nat_le 1 (names_of linked k)) ≡ true
   node_named k n at f = ap (λ (m : ℕ). k == root || nat_le 1 m) (names_kept k f) ∙ each-node_at (λ k n. k == root || nat_le 1 (names_of t k)) t.nodes k n v.nodes_have_names at
@@ -209,17 +209,17 @@ module _ (t : Tree) (dir file : ℕ) (name : List ℕ) (d d' a a' : Node) (v : I
       le-leb 1 (names_of linked file) (omega arith)
 
   abbrev lower : (ℕ → Node → Bool) → ℕ → Node → Bool
-  lower p k n = not (is_folder n) || k == root || p k n
+  lower p k n = not (is_directory n) || k == root || p k n
 
   plain_lower : (p : ℕ → Node → Bool) → lower p file a' ≡ true
-  plain_lower p = or_left (not (is_folder a') || file == root) (p file a') (or_left (not (is_folder a')) (file == root) (rw plain'))
+  plain_lower p = or_left (not (is_directory a') || file == root) (p file a') (or_left (not (is_directory a')) (file == root) (rw plain'))
 
-  lower_from : (p q : ℕ → Node → Bool) (k : ℕ) (n m : Node) → is_folder m ≡ is_folder n → (p k n ≡ true → q k m ≡ true) → lower p k n ≡ true → lower q k m ≡ true
-  lower_from p q k n m same imp h = go (or_cases (not (is_folder n) || k == root) (p k n) h)
+  lower_from : (p q : ℕ → Node → Bool) (k : ℕ) (n m : Node) → is_directory m ≡ is_directory n → (p k n ≡ true → q k m ≡ true) → lower p k n ≡ true → lower q k m ≡ true
+  lower_from p q k n m same imp h = go (or_cases (not (is_directory n) || k == root) (p k n) h)
     where
-      go : ((not (is_folder n) || k == root) ≡ true) ⊎ (p k n ≡ true) → lower q k m ≡ true
-      go (inl first) = or_left (not (is_folder m) || k == root) (q k m) (ap (λ (b : Bool). not b || k == root) same ∙ first)
-      go (inr second) = or_right (not (is_folder m) || k == root) (q k m) (imp second)
+      go : ((not (is_directory n) || k == root) ≡ true) ⊎ (p k n ≡ true) → lower q k m ≡ true
+      go (inl first) = or_left (not (is_directory m) || k == root) (q k m) (ap (λ (b : Bool). not b || k == root) same ∙ first)
+      go (inr second) = or_right (not (is_directory m) || k == root) (q k m) (imp second)
 
   abbrev has : Node → ℕ → Bool
   has n k = list_any (λ e. e.fileid == k) (entries n)
@@ -238,17 +238,17 @@ module _ (t : Tree) (dir file : ℕ) (name : List ℕ) (d d' a a' : Node) (v : I
           rw (at_linked p, e, f, entries_same) before
       go false e false f = rw (at_linked p, e, f) h
 
-  stands : (k : ℕ) (n m : Node) → is_folder m ≡ is_folder n → parent_of m ≡ parent_of n → node_at t.nodes k ≡ Some n → lower (λ k n. has (the_node linked (parent_of n)) k) k m ≡ true
-  stands k n m same up at = lower_from (λ k n. has (the_node t (parent_of n)) k) (λ k n. has (the_node linked (parent_of n)) k) k n m same (λ h. subst (λ (p : ℕ). has (the_node linked p) k ≡ true) (sym up) (has_kept (parent_of n) k h)) (each-node_at (lower (λ k n. has (the_node t (parent_of n)) k)) t.nodes k n v.folders_stand_in_parents at)
+  stands : (k : ℕ) (n m : Node) → is_directory m ≡ is_directory n → parent_of m ≡ parent_of n → node_at t.nodes k ≡ Some n → lower (λ k n. has (the_node linked (parent_of n)) k) k m ≡ true
+  stands k n m same up at = lower_from (λ k n. has (the_node t (parent_of n)) k) (λ k n. has (the_node linked (parent_of n)) k) k n m same (λ h. subst (λ (p : ℕ). has (the_node linked p) k ≡ true) (sym up) (has_kept (parent_of n) k h)) (each-node_at (lower (λ k n. has (the_node t (parent_of n)) k)) t.nodes k n v.directories_stand_in_parents at)
 
-  named_one : (k : ℕ) (n m : Node) → is_folder m ≡ is_folder n → (file == k) ≡ false → node_at t.nodes k ≡ Some n → lower (λ k n. names_of linked k == 1) k m ≡ true
-  named_one k n m same f at = lower_from (λ k n. names_of t k == 1) (λ k n. names_of linked k == 1) k n m same (λ h. ap (λ (x : ℕ). x == 1) (names_kept k f) ∙ h) (each-node_at (lower (λ k n. names_of t k == 1)) t.nodes k n v.folders_have_one at)
+  named_one : (k : ℕ) (n m : Node) → is_directory m ≡ is_directory n → (file == k) ≡ false → node_at t.nodes k ≡ Some n → lower (λ k n. names_of linked k == 1) k m ≡ true
+  named_one k n m same f at = lower_from (λ k n. names_of t k == 1) (λ k n. names_of linked k == 1) k n m same (λ h. ap (λ (x : ℕ). x == 1) (names_kept k f) ∙ h) (each-node_at (lower (λ k n. names_of t k == 1)) t.nodes k n v.directories_have_one at)
 
-  leads_up : (k : ℕ) (n m : Node) → is_folder m ≡ is_folder n → node_at t.nodes k ≡ Some n → lower (λ k n. is_at_or_below linked k root) k m ≡ true
+  leads_up : (k : ℕ) (n m : Node) → is_directory m ≡ is_directory n → node_at t.nodes k ≡ Some n → lower (λ k n. is_at_or_below linked k root) k m ≡ true
   leads_up k n m same at = lower_from (λ k n. is_at_or_below t k root) (λ k n. is_at_or_below linked k root) k n m same (λ h. up_same k ∙ h) (each-node_at (lower (λ k n. is_at_or_below t k root)) t.nodes k n v.ways_lead_up at)
 
-  same_folder : is_folder d' ≡ is_folder d
-  same_folder = g.folder' ∙ sym g.folder
+  same_directory : is_directory d' ≡ is_directory d
+  same_directory = g.directory' ∙ sym g.directory
 
   abbrev cookies_test : Listing → Bool
   cookies_test l = ascends_below l.next_cookie (map (λ e. e.cookie) l.entries)
@@ -257,7 +257,7 @@ module _ (t : Tree) (dir file : ℕ) (name : List ℕ) (d d' a a' : Node) (v : I
   names_test l = are_distinct (map (λ e. e.name) l.entries)
 
   listing_same : listing_of a' ≡ listing_of a
-  listing_same = ap folder_listing g.content
+  listing_same = ap directory_listing g.content
 
   cookies_of_dir : cookies_test (listing_of d') ≡ true
   cookies_of_dir =
@@ -274,26 +274,26 @@ module _ (t : Tree) (dir file : ℕ) (name : List ℕ) (d d' a a' : Node) (v : I
   pub linked_valid : IsValidTree linked
   linked_valid = record {
     fileids = order;
-    root_is_folder = folder_same root ∙ v.root_is_folder;
+    root_is_directory = directory_same root ∙ v.root_is_directory;
     root_is_top = ap (λ (x : ℕ). x == root) (parent_same root) ∙ v.root_is_top;
     entries_name_nodes = entries_keep (λ e. is_some (node_at linked.nodes e.fileid)) (entries_weaken (λ e. is_some (node_at t.nodes e.fileid)) (λ e. is_some (node_at linked.nodes e.fileid)) (λ e h. there_same e.fileid ∙ h) (all_entries t) v.entries_name_nodes) (there_same file ∙ ap is_some g.there);
     none_names_root = entries_keep (λ e. not (e.fileid == root)) v.none_names_root file_apart_root;
     nodes_have_names = each_linked (λ k n. k == root || nat_le 1 (names_of linked k)) (node_named dir d g.at apart) (or_right (file == root) _ file_named) node_named;
-    folders_have_one = each_linked (lower (λ k n. names_of linked k == 1)) (named_one dir d d' same_folder apart g.at) (plain_lower (λ k n. names_of linked k == 1)) (λ k n at f. named_one k n n refl f at);
-    folders_stand_in_parents = each_linked (lower (λ k n. has (the_node linked (parent_of n)) k)) (stands dir d d' same_folder g.parent' g.at) (plain_lower (λ k n. has (the_node linked (parent_of n)) k)) (λ k n at f. stands k n n refl refl at);
-    ways_lead_up = each_linked (lower (λ k n. is_at_or_below linked k root)) (leads_up dir d d' same_folder g.at) (plain_lower (λ k n. is_at_or_below linked k root)) (λ k n at f. leads_up k n n refl at);
+    directories_have_one = each_linked (lower (λ k n. names_of linked k == 1)) (named_one dir d d' same_directory apart g.at) (plain_lower (λ k n. names_of linked k == 1)) (λ k n at f. named_one k n n refl f at);
+    directories_stand_in_parents = each_linked (lower (λ k n. has (the_node linked (parent_of n)) k)) (stands dir d d' same_directory g.parent' g.at) (plain_lower (λ k n. has (the_node linked (parent_of n)) k)) (λ k n at f. stands k n n refl refl at);
+    ways_lead_up = each_linked (lower (λ k n. is_at_or_below linked k root)) (leads_up dir d d' same_directory g.at) (plain_lower (λ k n. is_at_or_below linked k root)) (λ k n at f. leads_up k n n refl at);
     names_differ = each_again (λ k n. names_test (listing_of n)) v.names_differ names_of_dir (ap names_test listing_same ∙ each-node_at (λ k n. names_test (listing_of n)) t.nodes file a v.names_differ g.there);
     cookies = each_again (λ k n. cookies_test (listing_of n)) v.cookies cookies_of_dir (ap cookies_test listing_same ∙ each-node_at (λ k n. cookies_test (listing_of n)) t.nodes file a v.cookies g.there);
     links = each_linked (λ k n. n.nlink == links_of linked k n) (eq-eqb _ _ links_of_dir) (eq-eqb _ _ links_of_file) (λ k n at f. eq-eqb _ _ (links_before k n at ∙ sym (links_kept k n f)));
     modes = each_again (λ k n. nat_lt n.mode 0o10000) v.modes g.mode' (ap (λ (m : ℕ). nat_lt m 0o10000) g.mode ∙ each-node_at (λ k n. nat_lt n.mode 0o10000) t.nodes file a v.modes g.there);
     contents_within = each_again (λ k n. is_within n.content) v.contents_within g.within' (ap is_within g.content ∙ each-node_at (λ k n. is_within n.content) t.nodes file a v.contents_within g.there);
-    links_within = each_again (λ k n. is_folder n || nat_le n.nlink links_most) v.links_within (or_left _ _ g.folder') (or_right (is_folder a') (nat_le a'.nlink links_most) (le-leb a'.nlink links_most (omega (arith, g.more, g.room))));
-    nodes_within = ap (λ (m : ℕ). nat_le m nodes_most) count_same ∙ v.nodes_within;
+    links_within = each_again (λ k n. is_directory n || nat_le n.nlink max_links) v.links_within (or_left _ _ g.directory') (or_right (is_directory a') (nat_le a'.nlink max_links) (le-leb a'.nlink max_links (omega (arith, g.more, g.room))));
+    nodes_within = ap (λ (m : ℕ). nat_le m max_nodes) count_same ∙ v.nodes_within;
     fileid_within = v.fileid_within;
     volume_within = v.volume_within;
   }
 
-pub link_kept : (file : List ℕ) (at : At) → KeepsValid (Call.Link file at)
+pub link_kept : (file : List ℕ) (at : DirOpArgs) → KeepsValid (Call.Link file at)
 unfolding changed_tree refusal_of rules_of
 link_kept file at = kept (Call.Link file at) (λ t cred now none v. go t cred now (passed (link_rules t cred file at) none) v)
   where
@@ -309,26 +309,26 @@ link_kept file at = kept (Call.Link file at) (λ t cred now none v. go t cred no
         let d' = enter now at.name f d in
         let at_file : the_node t f ≡ a = ap (λ (o : Option Node). unwrap_or o no_node) there.1 in
         let at_dir : the_node t dir ≡ d = ap (λ (o : Option Node). unwrap_or o no_node) place.1 in
-        let folder = folder_there t dir d place.1 p.1.1.1.1.0 in
+        let directory = directory_there t dir d place.1 p.1.1.1.1.0 in
         let change : Listing → Listing = λ l. with_entry l at.name f in
-        let space : size_of_listing (listing_of d) + size_of_name at.name ≤ directory_most = subst (λ (n : Node). size_of_listing (listing_of n) + size_of_name at.name ≤ directory_most) at_dir (ltb-false directory_most _ p.1.1.1.1.1.1.1.1.1.1.1.1.1.0) in
-        let cookie : (listing_of d).next_cookie < cookie_most = subst (λ (n : Node). (listing_of n).next_cookie < cookie_most) at_dir (leb-false cookie_most _ p.1.1.1.1.1.1.1.1.1.1.1.1.1.1.0) in
+        let space : size_of_listing (listing_of d) + size_of_name at.name ≤ max_directory_bytes = subst (λ (n : Node). size_of_listing (listing_of n) + size_of_name at.name ≤ max_directory_bytes) at_dir (ltb-false max_directory_bytes _ p.1.1.1.1.1.1.1.1.1.1.1.1.1.0) in
+        let cookie : (listing_of d).next_cookie < max_cookie = subst (λ (n : Node). (listing_of n).next_cookie < max_cookie) at_dir (leb-false max_cookie _ p.1.1.1.1.1.1.1.1.1.1.1.1.1.1.0) in
         let g : Linking t dir f at.name d d' a a' = record {
           at = place.1;
-          folder = folder;
-          folder' = folder-with_listing change d.content folder;
+          directory = directory;
+          directory' = directory-with_listing change d.content directory;
           parent' = parent-with_listing change d.content;
-          listing' = listing-with_listing change d.content folder;
+          listing' = listing-with_listing change d.content directory;
           nlink' = refl;
           mode' = each-node_at (λ k n. nat_lt n.mode 0o10000) t.nodes dir d v.modes place.1;
-          within' = within-with_entry d.content at.name f folder (each-node_at (λ k n. is_within n.content) t.nodes dir d v.contents_within place.1) (ltb-false name_most (length at.name) p.1.1.1.1.1.1.0) space cookie;
+          within' = within-with_entry d.content at.name f directory (each-node_at (λ k n. is_within n.content) t.nodes dir d v.contents_within place.1) (ltb-false max_name_bytes (length at.name) p.1.1.1.1.1.1.0) space cookie;
           free = subst (λ (n : Node). fileid_at (listing_of n) at.name ≡ None) at_dir (none_of (named t dir at.name) p.1.1.1.1.1.1.1.1.1.1.0);
           there = there.1;
           content = refl;
-          plain = subst (λ (n : Node). is_folder n ≡ false) at_file p.1.1.1.1.1.0;
+          plain = subst (λ (n : Node). is_directory n ≡ false) at_file p.1.1.1.1.1.0;
           more = refl;
           mode = refl;
-          room = subst (λ (n : Node). n.nlink < links_most) at_file (leb-false links_most _ p.1.1.1.1.1.1.1.1.1.1.1.1.0);
+          room = subst (λ (n : Node). n.nlink < max_links) at_file (leb-false max_links _ p.1.1.1.1.1.1.1.1.1.1.1.1.0);
         } in
         let done : IsValidTree (put (put t f a') dir d') = linked_valid t dir f at.name d d' a a' v g in
         let entered : the_node (put t f a') dir ≡ d = ap (λ (o : Option Node). unwrap_or o no_node) (mid_at t dir f at.name d d' a a' v g) in

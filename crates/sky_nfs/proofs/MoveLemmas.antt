@@ -6,16 +6,16 @@ use Rattle.std.specs.Str.{bytes_eq}
 use Rattle.std.proofs.lemmas.Bool.{and_from, eqb-true, eq-eqb, or_left, or_right, not-true, not_from_false, false≢true}
 use Rattle.std.proofs.lemmas.List.{map-append}
 use Rattle.std.proofs.lemmas.List.Folds.{list_all-append, list_any-append}
-use Rattle.sky_base.specs.Limits.{name_most, directory_most, cookie_most}
+use Rattle.sky_base.specs.Limits.{max_name_bytes, max_directory_bytes, max_cookie}
 use Rattle.sky_base.specs.Listing.{Listing, Entry, with_entry, without_entry, without_name, size_of_listing, size_of_name}
 use Rattle.sky_base.specs.declared.moment.Moment.{Moment}
 use Rattle.sky_nfs.specs.Changes.{edit, stamp, add_link, drop_link, enter, leave, with_parent}
-use Rattle.sky_nfs.specs.Procedures.Rename.{move_folder}
-use Rattle.sky_nfs.specs.Tree.{Tree, Node, Content, File, Folder, Link, node_at, with_node, the_node, no_node, root, is_folder, folder_test, folder_parent, folder_listing, listing_of, parent_of, links_of, subfolders}
+use Rattle.sky_nfs.specs.Procedures.Rename.{move_directory}
+use Rattle.sky_nfs.specs.Tree.{Tree, Node, Content, File, Directory, Link, node_at, with_node, the_node, no_node, root, is_directory, directory_test, directory_parent, directory_listing, listing_of, parent_of, links_of, subdirectories}
 use Rattle.sky_nfs.specs.Validity.{IsValidTree, ascends_below, is_within}
 use Rattle.sky_nfs.proofs.ValidityLemmas.{each-node_at}
 use Rattle.sky_nfs.proofs.GrowLemmas.{entries, cnt, total, cnt-append, keys-put, length-put, total-put, ascends-push, distinct-push, node_at-with_node}
-use Rattle.sky_nfs.proofs.CreateLemmas.{folder-with_listing, parent-with_listing, listing-with_listing, within-with_entry}
+use Rattle.sky_nfs.proofs.CreateLemmas.{directory-with_listing, parent-with_listing, listing-with_listing, within-with_entry}
 use Rattle.sky_nfs.proofs.DropLemmas.{found_id, all-without, none_all, ascends-without, distinct-without, cnt-without, any-without}
 use Rattle.sky_nfs.proofs.RemoveLemmas.{within-without}
 use Rattle.sky_nfs.proofs.CarryLemmas.{Mapped, cookies_test, names_test, Part, Carried, Avoids, carried_valid}
@@ -49,11 +49,11 @@ step_total p bound ns ms F s i g d at =
     subst (λ (n : Node). total p (with_node ms i (g n)) + cnt p (entries (F i d)) ≡ total p ms + cnt p (entries (g (F i d)))) (sym value) (total-put p bound ms i (F i d) (g (F i d)) s.order here)
 
 Part_refl : (f : ℕ) (n : Node) → Part f n n
-Part_refl f n = record { folder = refl; mode = refl; keeps = λ p q h. h; has = λ j e h. h; names = λ h. h; cookies = λ h. h; within = λ h. h }
+Part_refl f n = record { directory = refl; mode = refl; keeps = λ p q h. h; has = λ j e h. h; names = λ h. h; cookies = λ h. h; within = λ h. h }
 
 Part_trans : (f : ℕ) (a b c : Node) → Part f a b → Part f b c → Part f a c
 Part_trans f a b c x y = record {
-  folder = y.folder ∙ x.folder;
+  directory = y.directory ∙ x.directory;
   mode = y.mode ∙ x.mode;
   keeps = λ p q h. y.keeps p q (x.keeps p q h);
   has = λ j e h. y.has j e (x.has j e h);
@@ -69,43 +69,43 @@ Part_cond f false n m h = Part_refl f n
 -- a node whose content stays
 part_same : (f : ℕ) (n m : Node) → m.content ≡ n.content → m.mode ≡ n.mode → Part f n m
 part_same f n m content mode = record {
-  folder = ap folder_test content;
+  directory = ap directory_test content;
   mode = mode;
-  keeps = λ p q h. ap (λ (c : Content). list_all (λ e. p e.fileid) (folder_listing c).entries) content ∙ h;
-  has = λ j e h. ap (λ (c : Content). list_any (λ e. e.fileid == j) (folder_listing c).entries) content ∙ h;
-  names = λ h. ap (λ (c : Content). names_test (folder_listing c)) content ∙ h;
-  cookies = λ h. ap (λ (c : Content). cookies_test (folder_listing c)) content ∙ h;
+  keeps = λ p q h. ap (λ (c : Content). list_all (λ e. p e.fileid) (directory_listing c).entries) content ∙ h;
+  has = λ j e h. ap (λ (c : Content). list_any (λ e. e.fileid == j) (directory_listing c).entries) content ∙ h;
+  names = λ h. ap (λ (c : Content). names_test (directory_listing c)) content ∙ h;
+  cookies = λ h. ap (λ (c : Content). cookies_test (directory_listing c)) content ∙ h;
   within = λ h. ap is_within content ∙ h;
 }
 
 abbrev reparent : ℕ → Node → Node
 reparent to n = record n { content = with_parent to n.content }
 
-parent-listing : (to : ℕ) (c : Content) → folder_listing (with_parent to c) ≡ folder_listing c
+parent-listing : (to : ℕ) (c : Content) → directory_listing (with_parent to c) ≡ directory_listing c
 parent-listing to (File bytes) = refl
-parent-listing to (Folder parent l) = refl
+parent-listing to (Directory parent l) = refl
 parent-listing to (Link text) = refl
 
-parent-folder : (to : ℕ) (c : Content) → folder_test (with_parent to c) ≡ folder_test c
-parent-folder to (File bytes) = refl
-parent-folder to (Folder parent l) = refl
-parent-folder to (Link text) = refl
+parent-directory : (to : ℕ) (c : Content) → directory_test (with_parent to c) ≡ directory_test c
+parent-directory to (File bytes) = refl
+parent-directory to (Directory parent l) = refl
+parent-directory to (Link text) = refl
 
 parent-within : (to : ℕ) (c : Content) → is_within (with_parent to c) ≡ is_within c
 parent-within to (File bytes) = refl
-parent-within to (Folder parent l) = refl
+parent-within to (Directory parent l) = refl
 parent-within to (Link text) = refl
 
-parent-parent : (to : ℕ) (c : Content) → folder_test c ≡ true → folder_parent (with_parent to c) ≡ to
+parent-parent : (to : ℕ) (c : Content) → directory_test c ≡ true → directory_parent (with_parent to c) ≡ to
 parent-parent to (File bytes) h = absurd (cc)
-parent-parent to (Folder parent l) h = refl
+parent-parent to (Directory parent l) h = refl
 parent-parent to (Link text) h = absurd (cc)
 
 part_parent : (f to : ℕ) (n : Node) → Part f n (reparent to n)
 part_parent f to n =
     let l : listing_of (reparent to n) ≡ listing_of n = parent-listing to n.content in
     record {
-      folder = parent-folder to n.content;
+      directory = parent-directory to n.content;
       mode = refl;
       keeps = λ p q h. ap (λ (l : Listing). list_all (λ e. p e.fileid) l.entries) l ∙ h;
       has = λ j e h. ap (λ (l : Listing). list_any (λ e. e.fileid == j) l.entries) l ∙ h;
@@ -114,12 +114,12 @@ part_parent f to n =
       within = λ h. parent-within to n.content ∙ h;
     }
 
-part_leave : (f : ℕ) (now : Moment) (name : List ℕ) (n : Node) → is_folder n ≡ true → found_id (entries n) name ≡ Some f → Part f n (leave now name n)
+part_leave : (f : ℕ) (now : Moment) (name : List ℕ) (n : Node) → is_directory n ≡ true → found_id (entries n) name ≡ Some f → Part f n (leave now name n)
 part_leave f now name n is found =
     let change : Listing → Listing = λ l. without_entry l name in
     let l : listing_of (leave now name n) ≡ without_entry (listing_of n) name = listing-with_listing change n.content is in
     record {
-      folder = folder-with_listing change n.content is ∙ sym is;
+      directory = directory-with_listing change n.content is ∙ sym is;
       mode = refl;
       keeps = λ p q h. ap (λ (l : Listing). list_all (λ e. p e.fileid) l.entries) l ∙ all-without (λ e. p e.fileid) (entries n) name h;
       has = λ j e h. ap (λ (l : Listing). list_any (λ e. e.fileid == j) l.entries) l ∙ any-without (entries n) name f j found e h;
@@ -128,13 +128,13 @@ part_leave f now name n is found =
       within = λ h. within-without n.content name h;
     }
 
-part_enter : (f : ℕ) (now : Moment) (name : List ℕ) (n : Node) → is_folder n ≡ true → list_any (λ e. bytes_eq e.name name) (entries n) ≡ false → length name ≤ name_most → size_of_listing (listing_of n) + size_of_name name ≤ directory_most → (listing_of n).next_cookie < cookie_most → Part f n (enter now name f n)
+part_enter : (f : ℕ) (now : Moment) (name : List ℕ) (n : Node) → is_directory n ≡ true → list_any (λ e. bytes_eq e.name name) (entries n) ≡ false → length name ≤ max_name_bytes → size_of_listing (listing_of n) + size_of_name name ≤ max_directory_bytes → (listing_of n).next_cookie < max_cookie → Part f n (enter now name f n)
 part_enter f now name n is free short space cookie =
     let change : Listing → Listing = λ l. with_entry l name f in
     let entered : Entry = record { cookie = (listing_of n).next_cookie; name = name; fileid = f } in
     let l : listing_of (enter now name f n) ≡ with_entry (listing_of n) name f = listing-with_listing change n.content is in
     record {
-      folder = folder-with_listing change n.content is ∙ sym is;
+      directory = directory-with_listing change n.content is ∙ sym is;
       mode = refl;
       keeps = λ p q h. ap (λ (l : Listing). list_all (λ e. p e.fileid) l.entries) l ∙ list_all-append (λ e. p e.fileid) (entries n) (entered ∷ []) ∙ and_from _ _ h (and_from _ _ q refl);
       has = λ j e h. ap (λ (l : Listing). list_any (λ e. e.fileid == j) l.entries) l ∙ list_any-append (λ e. e.fileid == j) (entries n) (entered ∷ []) ∙ or_left _ _ h;
@@ -159,7 +159,7 @@ cnt-entered q xs e = cnt-append (λ e. q e.fileid) xs (e ∷ []) ∙ ap (λ (m :
     single true = refl
     single false = refl
 
-module _ (c : Tree) (now : Moment) (from to f : ℕ) (from_name to_name : List ℕ) (df dt a : Node) (v : IsValidTree c) (at_from : node_at c.nodes from ≡ Some df) (from_folder : is_folder df ≡ true) (at_to : node_at c.nodes to ≡ Some dt) (to_folder : is_folder dt ≡ true) (found : found_id (entries df) from_name ≡ Some f) (at_f : node_at c.nodes f ≡ Some a) (f_not_root : (f == root) ≡ false) (free : list_any (λ e. bytes_eq e.name to_name) (entries dt) ≡ false) (short : length to_name ≤ name_most) (space : size_of_listing (cond (from == to) (without_entry (listing_of dt) from_name) (listing_of dt)) + size_of_name to_name ≤ directory_most) (cookie : (listing_of dt).next_cookie < cookie_most) (avoids : is_folder a ≡ true → Avoids c f to) where
+module _ (c : Tree) (now : Moment) (from to f : ℕ) (from_name to_name : List ℕ) (df dt a : Node) (v : IsValidTree c) (at_from : node_at c.nodes from ≡ Some df) (from_directory : is_directory df ≡ true) (at_to : node_at c.nodes to ≡ Some dt) (to_directory : is_directory dt ≡ true) (found : found_id (entries df) from_name ≡ Some f) (at_f : node_at c.nodes f ≡ Some a) (f_not_root : (f == root) ≡ false) (free : list_any (λ e. bytes_eq e.name to_name) (entries dt) ≡ false) (short : length to_name ≤ max_name_bytes) (space : size_of_listing (cond (from == to) (without_entry (listing_of dt) from_name) (listing_of dt)) + size_of_name to_name ≤ max_directory_bytes) (cookie : (listing_of dt).next_cookie < max_cookie) (avoids : is_directory a ≡ true → Avoids c f to) where
   abbrev F1 : ℕ → Node → Node
   F1 k n = cond (from == k) (leave now from_name n) n
 
@@ -231,14 +231,14 @@ module _ (c : Tree) (now : Moment) (from to f : ℕ) (from_name to_name : List �
       subst (λ (m : Node). Q k m) same (subst (λ (j : ℕ). Q j d) (eqb-true i k e) q)
 
   part1 : (k : ℕ) (n : Node) → node_at c.nodes k ≡ Some n → Part f n (F1 k n)
-  part1 k n at = Part_cond f (from == k) n (leave now from_name n) (λ e. at_same (λ k n. Part f n (leave now from_name n)) from k df n at_from at e (part_leave f now from_name df from_folder found))
+  part1 k n at = Part_cond f (from == k) n (leave now from_name n) (λ e. at_same (λ k n. Part f n (leave now from_name n)) from k df n at_from at e (part_leave f now from_name df from_directory found))
 
   -- the directory that gets the entry, without the one that goes
   listing1 : listing_of (F1 to dt) ≡ cond (from == to) (without_entry (listing_of dt) from_name) (listing_of dt)
   listing1 = go (from == to)
     where
       go : (b : Bool) → listing_of (cond b (leave now from_name dt) dt) ≡ cond b (without_entry (listing_of dt) from_name) (listing_of dt)
-      go true = listing-with_listing (λ l. without_entry l from_name) dt.content to_folder
+      go true = listing-with_listing (λ l. without_entry l from_name) dt.content to_directory
       go false = refl
 
   free1 : list_any (λ e. bytes_eq e.name to_name) (entries (F1 to dt)) ≡ false
@@ -248,21 +248,21 @@ module _ (c : Tree) (now : Moment) (from to f : ℕ) (from_name to_name : List �
       go true = free-without (entries dt) to_name from_name free
       go false = free
 
-  cookie1 : (listing_of (F1 to dt)).next_cookie < cookie_most
-  cookie1 = subst (λ (m : ℕ). m < cookie_most) (sym (ap (λ (l : Listing). l.next_cookie) listing1 ∙ go (from == to))) cookie
+  cookie1 : (listing_of (F1 to dt)).next_cookie < max_cookie
+  cookie1 = subst (λ (m : ℕ). m < max_cookie) (sym (ap (λ (l : Listing). l.next_cookie) listing1 ∙ go (from == to))) cookie
     where
       go : (b : Bool) → (cond b (without_entry (listing_of dt) from_name) (listing_of dt)).next_cookie ≡ (listing_of dt).next_cookie
       go true = refl
       go false = refl
 
-  folder1 : is_folder (F1 to dt) ≡ true
-  folder1 = (part1 to dt at_to).folder ∙ to_folder
+  directory1 : is_directory (F1 to dt) ≡ true
+  directory1 = (part1 to dt at_to).directory ∙ to_directory
 
-  space1 : size_of_listing (listing_of (F1 to dt)) + size_of_name to_name ≤ directory_most
-  space1 = subst (λ (l : Listing). size_of_listing l + size_of_name to_name ≤ directory_most) (sym listing1) space
+  space1 : size_of_listing (listing_of (F1 to dt)) + size_of_name to_name ≤ max_directory_bytes
+  space1 = subst (λ (l : Listing). size_of_listing l + size_of_name to_name ≤ max_directory_bytes) (sym listing1) space
 
   part_to : Part f (F1 to dt) (enter now to_name f (F1 to dt))
-  part_to = part_enter f now to_name (F1 to dt) folder1 free1 short space1 cookie1
+  part_to = part_enter f now to_name (F1 to dt) directory1 free1 short space1 cookie1
 
   part2 : (k : ℕ) (n : Node) → node_at c.nodes k ≡ Some n → Part f n (F2 k n)
   part2 k n at = Part_trans f n (F1 k n) (F2 k n) (part1 k n at) (Part_cond f (to == k) (F1 k n) (enter now to_name f (F1 k n)) (λ e. at_same (λ k n. Part f (F1 k n) (enter now to_name f (F1 k n))) to k dt n at_to at e part_to))
@@ -298,10 +298,10 @@ module _ (c : Tree) (now : Moment) (from to f : ℕ) (from_name to_name : List �
   entries6 k n = cond_same entries (to == k) (F5 k n) (add_link (F5 k n)) (λ e. refl) ∙ cond_same entries (from == k) (F4 k n) (drop_link (F4 k n)) (λ e. refl) ∙ cond_same entries (f == k) (F3 k n) (reparent to (F3 k n)) (λ e. ap (λ (l : Listing). l.entries) (parent-listing to (F3 k n).content)) ∙ entries3 k n
 
   cnt_left : (q : ℕ → Bool) → cnt (λ e. q e.fileid) (entries (leave now from_name df)) + cond (q f) 1 0 ≡ cnt (λ e. q e.fileid) (entries df)
-  cnt_left q = ap (λ (l : Listing). cnt (λ e. q e.fileid) l.entries + cond (q f) 1 0) (listing-with_listing (λ l. without_entry l from_name) df.content from_folder) ∙ cnt-without q (entries df) from_name f found
+  cnt_left q = ap (λ (l : Listing). cnt (λ e. q e.fileid) l.entries + cond (q f) 1 0) (listing-with_listing (λ l. without_entry l from_name) df.content from_directory) ∙ cnt-without q (entries df) from_name f found
 
   cnt_entered : (q : ℕ → Bool) → cnt (λ e. q e.fileid) (entries (enter now to_name f (F1 to dt))) ≡ cnt (λ e. q e.fileid) (entries (F1 to dt)) + cond (q f) 1 0
-  cnt_entered q = ap (λ (l : Listing). cnt (λ e. q e.fileid) l.entries) (listing-with_listing (λ l. with_entry l to_name f) (F1 to dt).content folder1) ∙ cnt-entered q (entries (F1 to dt)) (record { cookie = (listing_of (F1 to dt)).next_cookie; name = to_name; fileid = f })
+  cnt_entered q = ap (λ (l : Listing). cnt (λ e. q e.fileid) l.entries) (listing-with_listing (λ l. with_entry l to_name f) (F1 to dt).content directory1) ∙ cnt-entered q (entries (F1 to dt)) (record { cookie = (listing_of (F1 to dt)).next_cookie; name = to_name; fileid = f })
 
   cnt1 : (q : ℕ → Bool) (k : ℕ) (n : Node) → node_at c.nodes k ≡ Some n → cnt (λ e. q e.fileid) (entries (F1 k n)) + cond (from == k) (cond (q f) 1 0) 0 ≡ cnt (λ e. q e.fileid) (entries n)
   cnt1 q k n at = go (from == k) refl
@@ -335,7 +335,7 @@ module _ (c : Tree) (now : Moment) (from to f : ℕ) (from_name to_name : List �
       omega (arith, total3 q)
 
   abbrev kind : ℕ → Bool
-  kind j = is_folder (the_node c j)
+  kind j = is_directory (the_node c j)
 
   at_f_is : the_node c f ≡ a
   at_f_is = ap (λ (o : Option Node). unwrap_or o no_node) at_f
@@ -352,14 +352,14 @@ module _ (c : Tree) (now : Moment) (from to f : ℕ) (from_name to_name : List �
   add_lem true n = refl
   add_lem false n = omega arith
 
-  carried3 : is_folder a ≡ false → (k : ℕ) (n : Node) → node_at c.nodes k ≡ Some n → Carried c f to k n (F3 k n)
+  carried3 : is_directory a ≡ false → (k : ℕ) (n : Node) → node_at c.nodes k ≡ Some n → Carried c f to k n (F3 k n)
   carried3 plain k n at = record {
     part = part3 k n at;
     parent = λ e. parent3 k n;
-    parent_f = λ e i. absurd (false≢true (sym (at_same (λ k n. is_folder n ≡ false) f k a n at_f at e plain) ∙ i));
-    folder_links = λ i.
+    parent_f = λ e i. absurd (false≢true (sym (at_same (λ k n. is_directory n ≡ false) f k a n at_f at e plain) ∙ i));
+    directory_links = λ i.
         let q : Entry → Bool = λ e. kind e.fileid in
-        let qf : kind f ≡ false = ap is_folder at_f_is ∙ plain in
+        let qf : kind f ≡ false = ap is_directory at_f_is ∙ plain in
         let l1 : cond (from == k) (cond (kind f) 1 0) 0 ≡ zero = nothing (from == k) (kind f) qf in
         let l2 : cond (to == k) (cond (kind f) 1 0) 0 ≡ zero = nothing (to == k) (kind f) qf in
         let same : cnt q (entries (F3 k n)) ≡ cnt q (entries (F2 k n)) = ap (cnt q) (entries3 k n) in
@@ -367,30 +367,30 @@ module _ (c : Tree) (now : Moment) (from to f : ℕ) (from_name to_name : List �
     plain_links = λ i. nlink3 k n;
   }
 
-  carried6 : is_folder a ≡ true → (k : ℕ) (n : Node) → node_at c.nodes k ≡ Some n → Carried c f to k n (F6 k n)
+  carried6 : is_directory a ≡ true → (k : ℕ) (n : Node) → node_at c.nodes k ≡ Some n → Carried c f to k n (F6 k n)
   carried6 is k n at = record {
     part = part6 k n at;
     parent = λ e. parent6 k n ∙ ap (λ (b : Bool). parent_of (cond b (reparent to (F3 k n)) (F3 k n))) e ∙ parent3 k n;
-    parent_f = λ e i. parent6 k n ∙ ap (λ (b : Bool). parent_of (cond b (reparent to (F3 k n)) (F3 k n))) e ∙ parent-parent to (F3 k n).content ((part3 k n at).folder ∙ i);
-    folder_links = λ i.
+    parent_f = λ e i. parent6 k n ∙ ap (λ (b : Bool). parent_of (cond b (reparent to (F3 k n)) (F3 k n))) e ∙ parent-parent to (F3 k n).content ((part3 k n at).directory ∙ i);
+    directory_links = λ i.
         let q : Entry → Bool = λ e. kind e.fileid in
-        let qf : kind f ≡ true = ap is_folder at_f_is ∙ is in
+        let qf : kind f ≡ true = ap is_directory at_f_is ∙ is in
         let l1 : ◌≡◌ {A = ℕ} (cond (from == k) (cond (kind f) 1 0) 0) (cond (from == k) 1 0) = ap (λ (b : Bool). cond (from == k) (cond b 1 0) 0) qf in
         let l2 : ◌≡◌ {A = ℕ} (cond (to == k) (cond (kind f) 1 0) 0) (cond (to == k) 1 0) = ap (λ (b : Bool). cond (to == k) (cond b 1 0) 0) qf in
         let same : cnt q (entries (F6 k n)) ≡ cnt q (entries (F2 k n)) = ap (cnt q) (entries6 k n) in
         let links : n.nlink ≡ links_of c k n = eqb-true _ _ (each-node_at (λ k n. n.nlink == links_of c k n) c.nodes k n v.links at) in
-        let counted : links_of c k n ≡ 2 + subfolders c n = rw i in
+        let counted : links_of c k n ≡ 2 + subdirectories c n = rw i in
         let some : 1 ≤ (F4 k n).nlink = omega (arith, nlink4 k n) in
         let less : (F5 k n).nlink + cond (from == k) 1 0 ≡ (F4 k n).nlink = drop_lem (from == k) (F4 k n) some in
         let more : (F6 k n).nlink ≡ (F5 k n).nlink + cond (to == k) 1 0 = add_lem (to == k) (F5 k n) in
         omega (arith, nlink4 k n, cnt1 kind k n at, cnt2 kind k n at);
-    plain_links = λ i. cond_same (λ n. n.nlink) (to == k) (F5 k n) (add_link (F5 k n)) (λ e. absurd (false≢true (sym i ∙ at_same (λ k n. is_folder n ≡ true) to k dt n at_to at e to_folder))) ∙ cond_same (λ n. n.nlink) (from == k) (F4 k n) (drop_link (F4 k n)) (λ e. absurd (false≢true (sym i ∙ at_same (λ k n. is_folder n ≡ true) from k df n at_from at e from_folder))) ∙ nlink4 k n;
+    plain_links = λ i. cond_same (λ n. n.nlink) (to == k) (F5 k n) (add_link (F5 k n)) (λ e. absurd (false≢true (sym i ∙ at_same (λ k n. is_directory n ≡ true) to k dt n at_to at e to_directory))) ∙ cond_same (λ n. n.nlink) (from == k) (F4 k n) (drop_link (F4 k n)) (λ e. absurd (false≢true (sym i ∙ at_same (λ k n. is_directory n ≡ true) from k df n at_from at e from_directory))) ∙ nlink4 k n;
   }
 
   has_new : list_any (λ e. e.fileid == f) (entries (F2 to dt)) ≡ true
   has_new =
       let chosen : F2 to dt ≡ enter now to_name f (F1 to dt) = ap (λ (b : Bool). cond b (enter now to_name f (F1 to dt)) (F1 to dt)) (eq-eqb to to refl) in
-      let l : listing_of (enter now to_name f (F1 to dt)) ≡ with_entry (listing_of (F1 to dt)) to_name f = listing-with_listing (λ l. with_entry l to_name f) (F1 to dt).content folder1 in
+      let l : listing_of (enter now to_name f (F1 to dt)) ≡ with_entry (listing_of (F1 to dt)) to_name f = listing-with_listing (λ l. with_entry l to_name f) (F1 to dt).content directory1 in
       let entered : Entry = record { cookie = (listing_of (F1 to dt)).next_cookie; name = to_name; fileid = f } in
       ap (λ (n : Node). list_any (λ e. e.fileid == f) (entries n)) chosen ∙ ap (λ (l : Listing). list_any (λ e. e.fileid == f) l.entries) l ∙ list_any-append (λ e. e.fileid == f) (entries (F1 to dt)) (entered ∷ []) ∙ or_right _ _ (or_left _ _ (eq-eqb f f refl))
 
@@ -400,17 +400,17 @@ module _ (c : Tree) (now : Moment) (from to f : ℕ) (from_name to_name : List �
   holds6 : list_any (λ e. e.fileid == f) (entries (unwrap_or (node_at ms6 to) no_node)) ≡ true
   holds6 = ap (λ (o : Option Node). list_any (λ e. e.fileid == f) (entries (unwrap_or o no_node))) (s6.at to ∙ ap (option_map (F6 to)) at_to) ∙ ap (list_any (λ (e : Entry). e.fileid == f)) (entries6 to dt) ∙ has_new
 
-  way : is_folder (the_node c f) ≡ true → Avoids c f to
-  way h = avoids (sym (ap is_folder at_f_is) ∙ h)
+  way : is_directory (the_node c f) ≡ true → Avoids c f to
+  way h = avoids (sym (ap is_directory at_f_is) ∙ h)
 
-  to_is : is_folder (the_node c to) ≡ true
-  to_is = ap (λ (o : Option Node). is_folder (unwrap_or o no_node)) at_to ∙ to_folder
+  to_is : is_directory (the_node c to) ≡ true
+  to_is = ap (λ (o : Option Node). is_directory (unwrap_or o no_node)) at_to ∙ to_directory
 
   abbrev pub stamped : Tree
   stamped = edit (edit (edit c from (λ d. leave now from_name d)) to (λ d. enter now to_name f d)) f (λ n. stamp now n)
 
-  pub moved_plain : is_folder a ≡ false → IsValidTree stamped
+  pub moved_plain : is_directory a ≡ false → IsValidTree stamped
   moved_plain plain = carried_valid c ms3 F3 f to v s3 total3 (carried3 plain) f_not_root (ap is_some at_f) to_is holds3 way
 
-  pub moved_folder : is_folder a ≡ true → IsValidTree (move_folder stamped from to f)
-  moved_folder is = carried_valid c ms6 F6 f to v s6 total6 (carried6 is) f_not_root (ap is_some at_f) to_is holds6 way
+  pub moved_directory : is_directory a ≡ true → IsValidTree (move_directory stamped from to f)
+  moved_directory is = carried_valid c ms6 F6 f to v s6 total6 (carried6 is) f_not_root (ap is_some at_f) to_is holds6 way

@@ -3,23 +3,23 @@ use Rattle.std.proofs.Common.{◌≡◌, ℕ, ◌+◌, ◌<◌, ◌≤◌, List,
 use Rattle.std.specs.Prelude.{Bool, cond, not, ◌&&◌, ◌||◌, ◌==◌, ◌⊎◌, nat_lt, nat_le, is_none, unwrap_or, sum_by}
 use Rattle.std.specs.List.{list_all}
 use Rattle.std.proofs.lemmas.Bool.{and_parts, and_from, eqb-true, eqb-false, eq-eqb, ne_eqb, ltb-true, leb-true, leb-false, le-leb, or_cases, false≢true, not-true, not-false, cond_both}
-use Rattle.sky_base.specs.Limits.{directory_most, cookie_most}
+use Rattle.sky_base.specs.Limits.{max_directory_bytes, max_cookie}
 use Rattle.sky_base.specs.Listing.{Listing, Entry, without_entry, without_name, fileid_at, size_of_name}
 use Rattle.sky_base.specs.declared.cred.Cred.{Cred}
 use Rattle.sky_base.specs.declared.moment.Moment.{Moment}
-use Rattle.sky_nfs.specs.declared.call.At.{At}
+use Rattle.sky_nfs.specs.declared.call.DirOpArgs.{DirOpArgs}
 use Rattle.sky_nfs.specs.declared.call.Call.{Call}
 use Rattle.sky_nfs.specs.Changes.{put, edit, erase, stamp, drop_link, leave, release, remove_name, with_listing}
 use Rattle.sky_nfs.specs.Handles.{fileid_in}
 use Rattle.sky_nfs.specs.Laws.{KeepsValid}
 use Rattle.sky_nfs.specs.Procedure.{refusal_of, rules_of, changed_tree}
 use Rattle.sky_nfs.specs.Procedures.Remove.{has_entries, remove_rules, rmdir_rules, removed_tree}
-use Rattle.sky_nfs.specs.Tree.{Tree, Node, Content, File, Folder, Link, node_at, with_node, without_node, the_node, no_node, root, is_folder, folder_test, folder_listing, listing_of, named, names_of, links_of}
+use Rattle.sky_nfs.specs.Tree.{Tree, Node, Content, File, Directory, Link, node_at, with_node, without_node, the_node, no_node, root, is_directory, directory_test, directory_listing, listing_of, named, names_of, links_of}
 use Rattle.sky_nfs.specs.Validity.{IsValidTree, ascends_below, is_within}
 use Rattle.sky_nfs.proofs.ValidityLemmas.{each-node_at}
 use Rattle.sky_nfs.proofs.KeptLemmas.{AllPassed, passed, is_there, kept}
 use Rattle.sky_nfs.proofs.GrowLemmas.{each_entry, keys, entries, cnt, total, keys-put, length-put, total-put, node_at-with_node, some_of}
-use Rattle.sky_nfs.proofs.CreateLemmas.{found_in, folder-with_listing, parent-with_listing, listing-with_listing, folder_there, named_there}
+use Rattle.sky_nfs.proofs.CreateLemmas.{found_in, directory-with_listing, parent-with_listing, listing-with_listing, directory_there, named_there}
 use Rattle.sky_nfs.proofs.DropLemmas.{found_id, Dropping, Fate, gone, less, dropped_valid, all-without, sum-without}
 
 -- what stands where after a node is gone
@@ -112,12 +112,12 @@ total-without_node p bound (e ∷ es) f a order at none = go (e.0 == f) refl (λ
 pub within-without : (c : Content) (name : List ℕ) → is_within c ≡ true → is_within (with_listing (λ l. without_entry l name) c) ≡ true
 within-without (File bytes) name w = w
 within-without (Link text) name w = w
-within-without (Folder parent l) name w =
-    let outer : ((nat_le (sum_by (λ (e : Entry). size_of_name e.name) l.entries) directory_most && nat_le l.next_cookie cookie_most) ≡ true) × (list_all (λ (e : Entry). nat_le (length e.name) 255) l.entries ≡ true) = and_parts _ _ w in
-    let inner : (nat_le (sum_by (λ (e : Entry). size_of_name e.name) l.entries) directory_most ≡ true) × (nat_le l.next_cookie cookie_most ≡ true) = and_parts _ _ outer.0 in
-    let most : sum_by (λ (e : Entry). size_of_name e.name) l.entries ≤ directory_most = leb-true _ _ inner.0 in
-    let fewer : sum_by (λ (e : Entry). size_of_name e.name) (without_name l.entries name) ≤ directory_most = omega (arith, sum-without l.entries name) in
-    and_from _ _ (and_from _ _ (le-leb _ directory_most fewer) inner.1) (all-without (λ (e : Entry). nat_le (length e.name) 255) l.entries name outer.1)
+within-without (Directory parent l) name w =
+    let outer : ((nat_le (sum_by (λ (e : Entry). size_of_name e.name) l.entries) max_directory_bytes && nat_le l.next_cookie max_cookie) ≡ true) × (list_all (λ (e : Entry). nat_le (length e.name) 255) l.entries ≡ true) = and_parts _ _ w in
+    let inner : (nat_le (sum_by (λ (e : Entry). size_of_name e.name) l.entries) max_directory_bytes ≡ true) × (nat_le l.next_cookie max_cookie ≡ true) = and_parts _ _ outer.0 in
+    let most : sum_by (λ (e : Entry). size_of_name e.name) l.entries ≤ max_directory_bytes = leb-true _ _ inner.0 in
+    let fewer : sum_by (λ (e : Entry). size_of_name e.name) (without_name l.entries name) ≤ max_directory_bytes = omega (arith, sum-without l.entries name) in
+    and_from _ _ (and_from _ _ (le-leb _ max_directory_bytes fewer) inner.1) (all-without (λ (e : Entry). nat_le (length e.name) 255) l.entries name outer.1)
 
 -- two places, in the other order
 swap : (dir f k : ℕ) (x y z : Option Node) → (dir == f) ≡ false → cond (f == k) x (cond (dir == k) y z) ≡ cond (dir == k) y (cond (f == k) x z)
@@ -134,12 +134,12 @@ absorb true x y w z c = refl
 absorb false x y w z c = refl
 
 -- only a directory has entries
-pub plain_empty : (a : Node) → is_folder a ≡ false → entries a ≡ []
+pub plain_empty : (a : Node) → is_directory a ≡ false → entries a ≡ []
 plain_empty a h = go a.content h
   where
-    go : (c : Content) → folder_test c ≡ false → (folder_listing c).entries ≡ []
+    go : (c : Content) → directory_test c ≡ false → (directory_listing c).entries ≡ []
     go (File bytes) e = refl
-    go (Folder parent l) e = absurd (cc)
+    go (Directory parent l) e = absurd (cc)
     go (Link text) e = refl
 
 pub no_length : (xs : List Entry) → length xs ≡ 0 → xs ≡ []
@@ -147,14 +147,14 @@ no_length [] h = refl
 no_length (x ∷ xs) h = absurd (omega arith)
 
 -- a directory and what is none stand at different fileids
-pub kinds_apart : (t : Tree) (dir f : ℕ) (d a : Node) → node_at t.nodes dir ≡ Some d → node_at t.nodes f ≡ Some a → is_folder d ≡ true → is_folder a ≡ false → (dir == f) ≡ false
-kinds_apart t dir f d a at there folder plain = ne_eqb dir f (λ e. clash (subst (λ (k : ℕ). node_at t.nodes k ≡ Some d) e at))
+pub kinds_apart : (t : Tree) (dir f : ℕ) (d a : Node) → node_at t.nodes dir ≡ Some d → node_at t.nodes f ≡ Some a → is_directory d ≡ true → is_directory a ≡ false → (dir == f) ≡ false
+kinds_apart t dir f d a at there directory plain = ne_eqb dir f (λ e. clash (subst (λ (k : ℕ). node_at t.nodes k ≡ Some d) e at))
   where
     clash : node_at t.nodes f ≡ Some d → ⊥
     clash h =
         let both : Some d ≡ Some a = sym h ∙ there in
         let same : d ≡ a = cc in
-        false≢true (sym plain ∙ subst (λ (n : Node). is_folder n ≡ true) same folder)
+        false≢true (sym plain ∙ subst (λ (n : Node). is_directory n ≡ true) same directory)
 
 -- so do a directory that has an entry and one that has none
 pub entries_apart : (t : Tree) (dir f : ℕ) (name : List ℕ) (d a : Node) → node_at t.nodes dir ≡ Some d → node_at t.nodes f ≡ Some a → named t dir name ≡ Some f → entries a ≡ [] → (dir == f) ≡ false
@@ -168,7 +168,7 @@ entries_apart t dir f name d a at there found none = ne_eqb dir f (λ e. clash (
         let both : ◌≡◌ {A = Option ℕ} None (Some f) = sym nothing ∙ h in
         cc
 
-module _ (t : Tree) (now : Moment) (dir f : ℕ) (name : List ℕ) (d a : Node) (v : IsValidTree t) (at : node_at t.nodes dir ≡ Some d) (folder : is_folder d ≡ true) (found : named t dir name ≡ Some f) (there : node_at t.nodes f ≡ Some a) (empty : entries a ≡ []) (apart : (dir == f) ≡ false) where
+module _ (t : Tree) (now : Moment) (dir f : ℕ) (name : List ℕ) (d a : Node) (v : IsValidTree t) (at : node_at t.nodes dir ≡ Some d) (directory : is_directory d ≡ true) (found : named t dir name ≡ Some f) (there : node_at t.nodes f ≡ Some a) (empty : entries a ≡ []) (apart : (dir == f) ≡ false) where
   abbrev d1 : Node
   d1 = leave now name d
 
@@ -194,19 +194,19 @@ module _ (t : Tree) (now : Moment) (dir f : ℕ) (name : List ℕ) (d a : Node) 
   mid_size = length-put t.next_fileid t.nodes dir d d1 v.fileids at
 
   -- what is common to the three ways in which the node fares
-  dropping : (d' : Node) (o : Option Node) (ms : List (ℕ × Node)) → d'.content ≡ d1.content → d'.mode ≡ d.mode → d'.nlink + cond (is_folder a) 1 0 ≡ d.nlink → ascends_below t.next_fileid (keys ms) ≡ true → ((k : ℕ) → node_at ms k ≡ cond (dir == k) (Some d') (cond (f == k) o (node_at t.nodes k))) → ((p : Entry → Bool) → total p ms ≡ total p mid) → length ms ≤ length mid → Fate t f a o → Dropping t dir f name d d' a o ms
+  dropping : (d' : Node) (o : Option Node) (ms : List (ℕ × Node)) → d'.content ≡ d1.content → d'.mode ≡ d.mode → d'.nlink + cond (is_directory a) 1 0 ≡ d.nlink → ascends_below t.next_fileid (keys ms) ≡ true → ((k : ℕ) → node_at ms k ≡ cond (dir == k) (Some d') (cond (f == k) o (node_at t.nodes k))) → ((p : Entry → Bool) → total p ms ≡ total p mid) → length ms ≤ length mid → Fate t f a o → Dropping t dir f name d d' a o ms
   dropping d' o ms content mode nlink order at_ms counts size fate =
       let change : Listing → Listing = λ l. without_entry l name in
       record {
         order = order;
         at_ms = at_ms;
-        counts = λ p. let same : cnt p (entries d') ≡ cnt p (entries d1) = ap (λ (c : Content). cnt p (folder_listing c).entries) content in omega (arith, counts p, mid_counts p);
+        counts = λ p. let same : cnt p (entries d') ≡ cnt p (entries d1) = ap (λ (c : Content). cnt p (directory_listing c).entries) content in omega (arith, counts p, mid_counts p);
         size = omega (arith, mid_size);
         at = at;
-        folder = folder;
-        folder' = ap folder_test content ∙ folder-with_listing change d.content folder;
-        parent' = ap Rattle.sky_nfs.specs.Tree.folder_parent content ∙ parent-with_listing change d.content;
-        listing' = ap folder_listing content ∙ listing-with_listing change d.content folder;
+        directory = directory;
+        directory' = ap directory_test content ∙ directory-with_listing change d.content directory;
+        parent' = ap Rattle.sky_nfs.specs.Tree.directory_parent content ∙ parent-with_listing change d.content;
+        listing' = ap directory_listing content ∙ listing-with_listing change d.content directory;
         found = subst (λ (n : Node). fileid_at (listing_of n) name ≡ Some f) at_is found;
         there = there;
         empty = empty;
@@ -218,7 +218,7 @@ module _ (t : Tree) (now : Moment) (dir f : ℕ) (name : List ℕ) (d a : Node) 
       }
 
   -- it goes
-  erased_valid : is_folder a ≡ false → names_of t f ≡ 1 → IsValidTree (record t { nodes = without_node mid f })
+  erased_valid : is_directory a ≡ false → names_of t f ≡ 1 → IsValidTree (record t { nodes = without_node mid f })
   erased_valid plain one = dropped_valid t dir f name d d1 a None (without_node mid f) v
       (dropping d1 None (without_node mid f) refl refl (rw plain (omega arith)) (ascends-without_node t.next_fileid mid f mid_order)
       (λ k. node_at-without_node mid f k ∙ ap (λ (o : Option Node). cond (f == k) None o) (node_at-with_node t.nodes dir d1 k) ∙ swap dir f k None (Some d1) (node_at t.nodes k) apart)
@@ -228,7 +228,7 @@ module _ (t : Tree) (now : Moment) (dir f : ℕ) (name : List ℕ) (d a : Node) 
   abbrev a1 : Node
   a1 = stamp now (drop_link a)
 
-  stays_valid : is_folder a ≡ false → 1 < a.nlink → IsValidTree (record t { nodes = with_node mid f a1 })
+  stays_valid : is_directory a ≡ false → 1 < a.nlink → IsValidTree (record t { nodes = with_node mid f a1 })
   stays_valid plain many = dropped_valid t dir f name d d1 a (Some a1) (with_node mid f a1) v
       (dropping d1 (Some a1) (with_node mid f a1) refl refl (rw plain (omega arith)) (ap (ascends_below t.next_fileid) (keys-put t.next_fileid mid f a a1 mid_order mid_at) ∙ mid_order)
       (λ k. node_at-with_node mid f a1 k ∙ ap (λ (o : Option Node). cond (f == k) (Some a1) o) (node_at-with_node t.nodes dir d1 k) ∙ swap dir f k (Some a1) (Some d1) (node_at t.nodes k) apart)
@@ -242,11 +242,11 @@ module _ (t : Tree) (now : Moment) (dir f : ℕ) (name : List ℕ) (d a : Node) 
   left_dir : node_at (without_node mid f) dir ≡ Some d1
   left_dir = node_at-without_node mid f dir ∙ ap (λ (b : Bool). cond b None (node_at mid dir)) (ne_eqb f dir (λ e. eqb-false dir f apart (sym e))) ∙ mid_dir
 
-  folder_gone_valid : is_folder a ≡ true → names_of t f ≡ 1 → IsValidTree (record t { nodes = with_node (without_node mid f) dir d2 })
-  folder_gone_valid is one =
+  directory_gone_valid : is_directory a ≡ true → names_of t f ≡ 1 → IsValidTree (record t { nodes = with_node (without_node mid f) dir d2 })
+  directory_gone_valid is one =
       let order : ascends_below t.next_fileid (keys (without_node mid f)) ≡ true = ascends-without_node t.next_fileid mid f mid_order in
       let links : d.nlink ≡ links_of t dir d = eqb-true _ _ (each-node_at (λ k n. n.nlink == links_of t k n) t.nodes dir d v.links at) in
-      let counted : links_of t dir d ≡ 2 + Rattle.sky_nfs.specs.Tree.subfolders t d = rw folder in
+      let counted : links_of t dir d ≡ 2 + Rattle.sky_nfs.specs.Tree.subdirectories t d = rw directory in
       let two : 1 < d.nlink = omega arith in
       dropped_valid t dir f name d d2 a None (with_node (without_node mid f) dir d2) v
       (dropping d2 None (with_node (without_node mid f) dir d2) refl refl (rw is (omega arith)) (ap (ascends_below t.next_fileid) (keys-put t.next_fileid (without_node mid f) dir d1 d2 order left_dir) ∙ order)
@@ -272,25 +272,25 @@ module _ (t : Tree) (now : Moment) (dir f : ℕ) (name : List ℕ) (d a : Node) 
   after_leave = ap (λ (o : Option Node). unwrap_or o no_node) mid_at
 
   -- the tree once the entry of what is no directory is gone
-  pub plain_removed : is_folder a ≡ false → IsValidTree (remove_name t now dir name)
+  pub plain_removed : is_directory a ≡ false → IsValidTree (remove_name t now dir name)
   plain_removed plain =
       let one : a.nlink ≤ 1 → names_of t f ≡ 1 = λ low. let links : a.nlink ≡ links_of t f a = eqb-true _ _ (each-node_at (λ k n. n.nlink == links_of t k n) t.nodes f a v.links there) in let counted : links_of t f a ≡ names_of t f = rw plain in omega (arith, named_some) in
       let last : IsValidTree (cond (nat_le a.nlink 1) (erase (put t dir d1) f) (put (put t dir d1) f a1)) = cond_both (nat_le a.nlink 1) (erase (put t dir d1) f) (put (put t dir d1) f a1) IsValidTree (λ low. erased_valid plain (one (leb-true a.nlink 1 low))) (λ high. stays_valid plain (leb-false a.nlink 1 high)) in
-      let chosen : IsValidTree (cond (is_folder a) (edit (erase (put t dir d1) f) dir drop_link) (cond (nat_le a.nlink 1) (erase (put t dir d1) f) (put (put t dir d1) f a1))) = subst (λ (b : Bool). IsValidTree (cond b (edit (erase (put t dir d1) f) dir drop_link) (cond (nat_le a.nlink 1) (erase (put t dir d1) f) (put (put t dir d1) f a1)))) (sym plain) last in
-      let released : IsValidTree (release (put t dir d1) now dir f) = subst (λ (n : Node). IsValidTree (cond (is_folder n) (edit (erase (put t dir d1) f) dir drop_link) (cond (nat_le n.nlink 1) (erase (put t dir d1) f) (put (put t dir d1) f (stamp now (drop_link n)))))) (sym after_leave) chosen in
+      let chosen : IsValidTree (cond (is_directory a) (edit (erase (put t dir d1) f) dir drop_link) (cond (nat_le a.nlink 1) (erase (put t dir d1) f) (put (put t dir d1) f a1))) = subst (λ (b : Bool). IsValidTree (cond b (edit (erase (put t dir d1) f) dir drop_link) (cond (nat_le a.nlink 1) (erase (put t dir d1) f) (put (put t dir d1) f a1)))) (sym plain) last in
+      let released : IsValidTree (release (put t dir d1) now dir f) = subst (λ (n : Node). IsValidTree (cond (is_directory n) (edit (erase (put t dir d1) f) dir drop_link) (cond (nat_le n.nlink 1) (erase (put t dir d1) f) (put (put t dir d1) f (stamp now (drop_link n)))))) (sym after_leave) chosen in
       let edited : IsValidTree (release (edit t dir (λ d. leave now name d)) now dir f) = subst (λ (n : Node). IsValidTree (release (put t dir (leave now name n)) now dir f)) (sym at_is) released in
       rw found edited
 
   -- the tree once the entry of an empty directory is gone
-  pub folder_removed : is_folder a ≡ true → IsValidTree (remove_name t now dir name)
-  folder_removed is =
-      let test : (not (is_folder a) || f == root || names_of t f == 1) ≡ true = each-node_at (λ k n. not (is_folder n) || k == root || names_of t k == 1) t.nodes f a v.folders_have_one there in
+  pub directory_removed : is_directory a ≡ true → IsValidTree (remove_name t now dir name)
+  directory_removed is =
+      let test : (not (is_directory a) || f == root || names_of t f == 1) ≡ true = each-node_at (λ k n. not (is_directory n) || k == root || names_of t k == 1) t.nodes f a v.directories_have_one there in
       let one : (names_of t f == 1) ≡ true = rw (is, f_not_root) at test in
-      let gone : IsValidTree (put (erase (put t dir d1) f) dir d2) = folder_gone_valid is (eqb-true _ _ one) in
+      let gone : IsValidTree (put (erase (put t dir d1) f) dir d2) = directory_gone_valid is (eqb-true _ _ one) in
       let left : the_node (erase (put t dir d1) f) dir ≡ d1 = ap (λ (o : Option Node). unwrap_or o no_node) left_dir in
       let cut : IsValidTree (edit (erase (put t dir d1) f) dir drop_link) = subst (λ (n : Node). IsValidTree (put (erase (put t dir d1) f) dir (drop_link n))) (sym left) gone in
-      let chosen : IsValidTree (cond (is_folder a) (edit (erase (put t dir d1) f) dir drop_link) (cond (nat_le a.nlink 1) (erase (put t dir d1) f) (put (put t dir d1) f a1))) = subst (λ (b : Bool). IsValidTree (cond b (edit (erase (put t dir d1) f) dir drop_link) (cond (nat_le a.nlink 1) (erase (put t dir d1) f) (put (put t dir d1) f a1)))) (sym is) cut in
-      let released : IsValidTree (release (put t dir d1) now dir f) = subst (λ (n : Node). IsValidTree (cond (is_folder n) (edit (erase (put t dir d1) f) dir drop_link) (cond (nat_le n.nlink 1) (erase (put t dir d1) f) (put (put t dir d1) f (stamp now (drop_link n)))))) (sym after_leave) chosen in
+      let chosen : IsValidTree (cond (is_directory a) (edit (erase (put t dir d1) f) dir drop_link) (cond (nat_le a.nlink 1) (erase (put t dir d1) f) (put (put t dir d1) f a1))) = subst (λ (b : Bool). IsValidTree (cond b (edit (erase (put t dir d1) f) dir drop_link) (cond (nat_le a.nlink 1) (erase (put t dir d1) f) (put (put t dir d1) f a1)))) (sym is) cut in
+      let released : IsValidTree (release (put t dir d1) now dir f) = subst (λ (n : Node). IsValidTree (cond (is_directory n) (edit (erase (put t dir d1) f) dir drop_link) (cond (nat_le n.nlink 1) (erase (put t dir d1) f) (put (put t dir d1) f (stamp now (drop_link n)))))) (sym after_leave) chosen in
       let edited : IsValidTree (release (edit t dir (λ d. leave now name d)) now dir f) = subst (λ (n : Node). IsValidTree (release (put t dir (leave now name n)) now dir f)) (sym at_is) released in
       rw found edited
 
@@ -298,7 +298,7 @@ pub some_named : (o : Option ℕ) → is_none o ≡ false → (f : ℕ) × (o �
 some_named None e = absurd (cc)
 some_named (Some f) e = (f, refl)
 
-pub remove_kept : (at : At) → KeepsValid (Call.Remove at)
+pub remove_kept : (at : DirOpArgs) → KeepsValid (Call.Remove at)
 unfolding changed_tree refusal_of rules_of
 remove_kept at = kept (Call.Remove at) (λ t cred now none v. go t cred now (passed (remove_rules t cred at) none) v)
   where
@@ -306,14 +306,14 @@ remove_kept at = kept (Call.Remove at) (λ t cred now none v. go t cred now (pas
     go t cred now p v =
         let dir : ℕ = fileid_in at.directory in
         let place = is_there (node_at t.nodes dir) p.1.0 in
-        let folder = folder_there t dir place.0 place.1 p.1.1.0 in
+        let directory = directory_there t dir place.0 place.1 p.1.1.0 in
         let name = some_named (named t dir at.name) p.1.1.1.1.1.1.1.0 in
         let there = some_of (node_at t.nodes name.0) (named_there t dir place.0 at.name name.0 v place.1 name.1) in
-        let kind : is_folder (the_node t name.0) ≡ false = subst (λ (o : Option ℕ). is_folder (the_node t (unwrap_or o 0)) ≡ false) name.1 p.1.1.1.1.1.1.1.1.1.0 in
-        let plain : is_folder there.0 ≡ false = subst (λ (n : Node). is_folder n ≡ false) (ap (λ (o : Option Node). unwrap_or o no_node) there.1) kind in
-        plain_removed t now dir name.0 at.name place.0 there.0 v place.1 folder name.1 there.1 (plain_empty there.0 plain) (kinds_apart t dir name.0 place.0 there.0 place.1 there.1 folder plain) plain
+        let kind : is_directory (the_node t name.0) ≡ false = subst (λ (o : Option ℕ). is_directory (the_node t (unwrap_or o 0)) ≡ false) name.1 p.1.1.1.1.1.1.1.1.1.0 in
+        let plain : is_directory there.0 ≡ false = subst (λ (n : Node). is_directory n ≡ false) (ap (λ (o : Option Node). unwrap_or o no_node) there.1) kind in
+        plain_removed t now dir name.0 at.name place.0 there.0 v place.1 directory name.1 there.1 (plain_empty there.0 plain) (kinds_apart t dir name.0 place.0 there.0 place.1 there.1 directory plain) plain
 
-pub rmdir_kept : (at : At) → KeepsValid (Call.Rmdir at)
+pub rmdir_kept : (at : DirOpArgs) → KeepsValid (Call.Rmdir at)
 unfolding changed_tree refusal_of rules_of
 rmdir_kept at = kept (Call.Rmdir at) (λ t cred now none v. go t cred now (passed (rmdir_rules t cred at) none) v)
   where
@@ -321,12 +321,12 @@ rmdir_kept at = kept (Call.Rmdir at) (λ t cred now none v. go t cred now (passe
     go t cred now p v =
         let dir : ℕ = fileid_in at.directory in
         let place = is_there (node_at t.nodes dir) p.1.0 in
-        let folder = folder_there t dir place.0 place.1 p.1.1.0 in
+        let directory = directory_there t dir place.0 place.1 p.1.1.0 in
         let name = some_named (named t dir at.name) p.1.1.1.1.1.1.1.1.0 in
         let there = some_of (node_at t.nodes name.0) (named_there t dir place.0 at.name name.0 v place.1 name.1) in
         let at_name : the_node t name.0 ≡ there.0 = ap (λ (o : Option Node). unwrap_or o no_node) there.1 in
-        let kind : not (is_folder (the_node t name.0)) ≡ false = subst (λ (o : Option ℕ). not (is_folder (the_node t (unwrap_or o 0))) ≡ false) name.1 p.1.1.1.1.1.1.1.1.1.1.0 in
-        let is : is_folder there.0 ≡ true = not-false _ (subst (λ (n : Node). not (is_folder n) ≡ false) at_name kind) in
+        let kind : not (is_directory (the_node t name.0)) ≡ false = subst (λ (o : Option ℕ). not (is_directory (the_node t (unwrap_or o 0))) ≡ false) name.1 p.1.1.1.1.1.1.1.1.1.1.0 in
+        let is : is_directory there.0 ≡ true = not-false _ (subst (λ (n : Node). not (is_directory n) ≡ false) at_name kind) in
         let bare : has_entries (the_node t name.0) ≡ false = subst (λ (o : Option ℕ). has_entries (the_node t (unwrap_or o 0)) ≡ false) name.1 p.1.1.1.1.1.1.1.1.1.1.1.0 in
         let none : entries there.0 ≡ [] = no_length (entries there.0) (eqb-true _ 0 (not-false _ (subst (λ (n : Node). has_entries n ≡ false) at_name bare))) in
-        folder_removed t now dir name.0 at.name place.0 there.0 v place.1 folder name.1 there.1 none (entries_apart t dir name.0 at.name place.0 there.0 place.1 there.1 name.1 none) is
+        directory_removed t now dir name.0 at.name place.0 there.0 v place.1 directory name.1 there.1 none (entries_apart t dir name.0 at.name place.0 there.0 place.1 there.1 name.1 none) is

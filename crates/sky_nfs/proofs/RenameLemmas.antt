@@ -4,30 +4,30 @@ use Rattle.std.specs.Prelude.{Bool, cond, not, ◌&&◌, ◌||◌, ◌==◌, ◌
 use Rattle.std.specs.List.{list_all, list_any}
 use Rattle.std.specs.Str.{bytes_eq}
 use Rattle.std.proofs.lemmas.Bool.{and_parts, eqb-true, eq-eqb, ne_eqb, ltb-false, leb-false, or_parts, or_from, or_left, not-true, not-false, not_from_false, false≢true, cases_Bool, cond_both}
-use Rattle.sky_base.specs.Limits.{name_most, directory_most, cookie_most}
+use Rattle.sky_base.specs.Limits.{max_name_bytes, max_directory_bytes, max_cookie}
 use Rattle.sky_base.specs.Listing.{Listing, Entry, without_entry, without_name, size_of_listing, size_of_name}
 use Rattle.sky_base.specs.declared.cred.Cred.{Cred}
 use Rattle.sky_base.specs.declared.moment.Moment.{Moment}
-use Rattle.sky_nfs.specs.declared.call.At.{At}
+use Rattle.sky_nfs.specs.declared.call.DirOpArgs.{DirOpArgs}
 use Rattle.sky_nfs.specs.declared.call.Call.{Call}
 use Rattle.sky_nfs.specs.Changes.{edit, erase, stamp, drop_link, enter, leave, release, remove_name, with_listing}
 use Rattle.sky_nfs.specs.Handles.{fileid_in}
 use Rattle.sky_nfs.specs.Laws.{KeepsValid}
 use Rattle.sky_nfs.specs.Procedure.{refusal_of, rules_of, changed_tree}
 use Rattle.sky_nfs.specs.Procedures.Remove.{has_entries}
-use Rattle.sky_nfs.specs.Procedures.Rename.{rename_rules, rename_tree, move_name, move_folder, move_rules, target_rules, staying, is_same}
+use Rattle.sky_nfs.specs.Procedures.Rename.{rename_rules, rename_tree, move_name, move_directory, move_rules, target_rules, staying, is_same}
 use Rattle.sky_nfs.specs.Rules.{Rules, entry_room_rules}
-use Rattle.sky_nfs.specs.Tree.{Tree, Node, Content, File, Folder, Link, node_at, the_node, no_node, root, is_folder, folder_test, folder_parent, folder_listing, listing_of, parent_of, named, ancestors, is_at_or_below}
+use Rattle.sky_nfs.specs.Tree.{Tree, Node, Content, File, Directory, Link, node_at, the_node, no_node, root, is_directory, directory_test, directory_parent, directory_listing, listing_of, parent_of, named, ancestors, is_at_or_below}
 use Rattle.sky_nfs.specs.Validity.{IsValidTree, are_distinct}
 use Rattle.sky_nfs.proofs.ValidityLemmas.{each-node_at}
 use Rattle.sky_nfs.proofs.KeptLemmas.{AllPassed, passed, is_there, kept}
 use Rattle.sky_nfs.proofs.GrowLemmas.{entries, not_found, each_entry, entries_weaken, node_at-with_node, there_of, some_of}
-use Rattle.sky_nfs.proofs.CreateLemmas.{found_in, parent-with_listing, listing-with_listing, folder_there, named_there}
+use Rattle.sky_nfs.proofs.CreateLemmas.{found_in, parent-with_listing, listing-with_listing, directory_there, named_there}
 use Rattle.std.proofs.lemmas.Slice.Eq.{bytes_eq-Decides}
 use Rattle.sky_nfs.proofs.DropLemmas.{found_id, all_map, none_all}
-use Rattle.sky_nfs.proofs.RemoveLemmas.{node_at-without_node, plain_empty, no_length, kinds_apart, entries_apart, some_named, plain_removed, folder_removed}
-use Rattle.sky_nfs.proofs.CarryLemmas.{has, names_test, Avoids, the_parent_is_folder}
-use Rattle.sky_nfs.proofs.MoveLemmas.{moved_plain, moved_folder}
+use Rattle.sky_nfs.proofs.RemoveLemmas.{node_at-without_node, plain_empty, no_length, kinds_apart, entries_apart, some_named, plain_removed, directory_removed}
+use Rattle.sky_nfs.proofs.CarryLemmas.{has, names_test, Avoids, the_parent_is_directory}
+use Rattle.sky_nfs.proofs.MoveLemmas.{moved_plain, moved_directory}
 
 other_name : (x y name : List ℕ) → bytes_eq x name ≡ true → not (bytes_eq x y) ≡ true → not (bytes_eq y name) ≡ true
 other_name x y name e h = not_from_false _ (go (cases_Bool (bytes_eq y name)))
@@ -79,14 +79,14 @@ without-none (x ∷ xs) name h =
     let parts = or_parts (bytes_eq x.name name) _ h in
     rw parts.0 (ap (λ (r : List Entry). x ∷ r) (without-none xs name parts.1))
 
-unchanged : (c : Content) (name : List ℕ) → list_any (λ e. bytes_eq e.name name) (folder_listing c).entries ≡ false → with_listing (λ l. without_entry l name) c ≡ c
+unchanged : (c : Content) (name : List ℕ) → list_any (λ e. bytes_eq e.name name) (directory_listing c).entries ≡ false → with_listing (λ l. without_entry l name) c ≡ c
 unchanged (File bytes) name h = refl
-unchanged (Folder parent l) name h = ap (λ (es : List Entry). Folder parent (record l { entries = es })) (without-none l.entries name h)
+unchanged (Directory parent l) name h = ap (λ (es : List Entry). Directory parent (record l { entries = es })) (without-none l.entries name h)
 unchanged (Link text) name h = refl
 
-test-with_listing : (f : Listing → Listing) (c : Content) → folder_test (with_listing f c) ≡ folder_test c
+test-with_listing : (f : Listing → Listing) (c : Content) → directory_test (with_listing f c) ≡ directory_test c
 test-with_listing f (File bytes) = refl
-test-with_listing f (Folder parent l) = refl
+test-with_listing f (Directory parent l) = refl
 test-with_listing f (Link text) = refl
 
 -- a tree in which what stood under a name is gone: all that stands elsewhere is as it was
@@ -113,7 +113,7 @@ erase_content : (t : Tree) (g k : ℕ) → (g == k) ≡ false → (the_node (era
 erase_content t g k e = ap (λ (o : Option Node). (unwrap_or o no_node).content) (node_at-without_node t.nodes g k ∙ ap (λ (b : Bool). cond b None (node_at t.nodes k)) e)
 
 release_content : (t : Tree) (now : Moment) (dir g k : ℕ) → (g == k) ≡ false → (the_node (release t now dir g) k).content ≡ (the_node t k).content
-release_content t now dir g k e = go (is_folder (the_node t g)) (nat_le (the_node t g).nlink 1)
+release_content t now dir g k e = go (is_directory (the_node t g)) (nat_le (the_node t g).nlink 1)
   where
     go : (b d : Bool) → (the_node (cond b (edit (erase t g) dir drop_link) (cond d (erase t g) (edit t g (λ n. stamp now (drop_link n))))) k).content ≡ (the_node t k).content
     go true d = edit_content (erase t g) dir drop_link k (λ n. refl) ∙ erase_content t g k e
@@ -121,8 +121,8 @@ release_content t now dir g k e = go (is_folder (the_node t g)) (nat_le (the_nod
     go false false = edit_content t g (λ n. stamp now (drop_link n)) k (λ n. refl)
 
 -- the target goes as REMOVE or RMDIR has it
-cleared : (t : Tree) (now : Moment) (to : ℕ) (name : List ℕ) (dt source : Node) (room : Rules) → IsValidTree t → node_at t.nodes to ≡ Some dt → is_folder dt ≡ true → (o : Option ℕ) → named t to name ≡ o → AllPassed (target_rules t source o ++ room) → Cleared t (remove_name t now to name) to name o × AllPassed room
-cleared t now to name dt source room v at folder None e p = (
+cleared : (t : Tree) (now : Moment) (to : ℕ) (name : List ℕ) (dt source : Node) (room : Rules) → IsValidTree t → node_at t.nodes to ≡ Some dt → is_directory dt ≡ true → (o : Option ℕ) → named t to name ≡ o → AllPassed (target_rules t source o ++ room) → Cleared t (remove_name t now to name) to name o × AllPassed room
+cleared t now to name dt source room v at directory None e p = (
   rw e (record {
     valid = v;
     content = λ k away. go k (to == k) refl;
@@ -134,9 +134,9 @@ cleared t now to name dt source room v at folder None e p = (
     go : (k : ℕ) (b : Bool) → (to == k) ≡ b → (the_node t k).content ≡ cond b (with_listing (λ l. without_entry l name) (the_node t k).content) (the_node t k).content
     go k true i = subst (λ (j : ℕ). (the_node t j).content ≡ with_listing (λ l. without_entry l name) (the_node t j).content) (eqb-true to k i) (sym (unchanged (the_node t to).content name (not_found (entries (the_node t to)) name e)))
     go k false i = refl
-cleared t now to name dt source room v at folder (Some g) e p = (
+cleared t now to name dt source room v at directory (Some g) e p = (
   record {
-    valid = removed (is_folder a) refl;
+    valid = removed (is_directory a) refl;
     content = λ k away. left k (ne_eqb g k (λ same. away (ap Some same)));
     bare = λ k i. let same : g ≡ k = cc in subst (λ (j : ℕ). entries (the_node t j) ≡ []) same none_there;
   },
@@ -152,22 +152,22 @@ cleared t now to name dt source room v at folder (Some g) e p = (
     at_a : the_node t g ≡ a
     at_a = ap (λ (o : Option Node). unwrap_or o no_node) there.1
 
-    bare_folder : is_folder a ≡ true → entries a ≡ []
-    bare_folder is =
-        let full : (is_folder a && has_entries a) ≡ false = subst (λ (n : Node). (is_folder n && has_entries n) ≡ false) at_a p.1.0 in
+    bare_directory : is_directory a ≡ true → entries a ≡ []
+    bare_directory is =
+        let full : (is_directory a && has_entries a) ≡ false = subst (λ (n : Node). (is_directory n && has_entries n) ≡ false) at_a p.1.0 in
         let away : has_entries a ≡ false = rw is at full in
         no_length (entries a) (eqb-true _ 0 (not-false _ away))
 
-    none : (b : Bool) → is_folder a ≡ b → entries a ≡ []
-    none true is = bare_folder is
+    none : (b : Bool) → is_directory a ≡ b → entries a ≡ []
+    none true is = bare_directory is
     none false is = plain_empty a is
 
     none_there : entries (the_node t g) ≡ []
-    none_there = ap entries at_a ∙ none (is_folder a) refl
+    none_there = ap entries at_a ∙ none (is_directory a) refl
 
-    removed : (b : Bool) → is_folder a ≡ b → IsValidTree (remove_name t now to name)
-    removed true is = folder_removed t now to g name dt a v at folder e there.1 (bare_folder is) (entries_apart t to g name dt a at there.1 e (bare_folder is)) is
-    removed false is = plain_removed t now to g name dt a v at folder e there.1 (plain_empty a is) (kinds_apart t to g dt a at there.1 folder is) is
+    removed : (b : Bool) → is_directory a ≡ b → IsValidTree (remove_name t now to name)
+    removed true is = directory_removed t now to g name dt a v at directory e there.1 (bare_directory is) (entries_apart t to g name dt a at there.1 e (bare_directory is)) is
+    removed false is = plain_removed t now to g name dt a v at directory e there.1 (plain_empty a is) (kinds_apart t to g dt a at there.1 directory is) is
 
     left : (k : ℕ) → (g == k) ≡ false → (the_node (remove_name t now to name) k).content ≡ cond (to == k) (with_listing (λ l. without_entry l name) (the_node t k).content) (the_node t k).content
     left k apart = rw e (release_content (edit t to (λ d. leave now name d)) now to g k apart ∙ edit_leave t now to name k)
@@ -180,11 +180,11 @@ module _ (t c : Tree) (to : ℕ) (name : List ℕ) (o : Option ℕ) (v : IsValid
       go true = keeps (the_node t k).content
       go false = refl
 
-  pub cleared_folder : (k : ℕ) → (o ≡ Some k → ⊥) → is_folder (the_node c k) ≡ is_folder (the_node t k)
-  cleared_folder k away = same_by folder_test k away (test-with_listing (λ l. without_entry l name))
+  pub cleared_directory : (k : ℕ) → (o ≡ Some k → ⊥) → is_directory (the_node c k) ≡ is_directory (the_node t k)
+  cleared_directory k away = same_by directory_test k away (test-with_listing (λ l. without_entry l name))
 
   cleared_parent : (k : ℕ) → (o ≡ Some k → ⊥) → parent_of (the_node c k) ≡ parent_of (the_node t k)
-  cleared_parent k away = same_by folder_parent k away (parent-with_listing (λ l. without_entry l name))
+  cleared_parent k away = same_by directory_parent k away (parent-with_listing (λ l. without_entry l name))
 
   pub named_away : (k : ℕ) (other : List ℕ) (j : ℕ) → named t k other ≡ Some j → o ≡ Some k → ⊥
   named_away k other j e i =
@@ -195,71 +195,71 @@ module _ (t c : Tree) (to : ℕ) (name : List ℕ) (o : Option ℕ) (v : IsValid
   has_away : (k j : ℕ) → has (the_node t k) j ≡ true → o ≡ Some k → ⊥
   has_away k j h i = false≢true (sym (ap (list_any (λ (e : Entry). e.fileid == j)) (g.bare k i)) ∙ h)
 
-  parent_away : (k : ℕ) → is_folder (the_node t k) ≡ true → (o ≡ Some k → ⊥) → o ≡ Some (parent_of (the_node t k)) → ⊥
+  parent_away : (k : ℕ) → is_directory (the_node t k) ≡ true → (o ≡ Some k → ⊥) → o ≡ Some (parent_of (the_node t k)) → ⊥
   parent_away k h away =
       let n = some_of (node_at t.nodes k) (there_of (node_at t.nodes k) h) in
       let node_is : the_node t k ≡ n.0 = ap (λ (o : Option Node). unwrap_or o no_node) n.1 in
-      let folder : is_folder n.0 ≡ true = subst (λ (m : Node). is_folder m ≡ true) node_is h in
-      go n.0 node_is folder (cases_Bool (k == root)) (each-node_at (λ k n. not (is_folder n) || k == root || list_any (λ e. e.fileid == k) (entries (the_node t (parent_of n)))) t.nodes k n.0 v.folders_stand_in_parents n.1)
+      let directory : is_directory n.0 ≡ true = subst (λ (m : Node). is_directory m ≡ true) node_is h in
+      go n.0 node_is directory (cases_Bool (k == root)) (each-node_at (λ k n. not (is_directory n) || k == root || list_any (λ e. e.fileid == k) (entries (the_node t (parent_of n)))) t.nodes k n.0 v.directories_stand_in_parents n.1)
     where
-      go : (n : Node) → the_node t k ≡ n → is_folder n ≡ true → ((k == root) ≡ true) ⊎ ((k == root) ≡ false) → (not (is_folder n) || k == root || list_any (λ e. e.fileid == k) (entries (the_node t (parent_of n)))) ≡ true → o ≡ Some (parent_of (the_node t k)) → ⊥
-      go n same folder (inl top) stands =
+      go : (n : Node) → the_node t k ≡ n → is_directory n ≡ true → ((k == root) ≡ true) ⊎ ((k == root) ≡ false) → (not (is_directory n) || k == root || list_any (λ e. e.fileid == k) (entries (the_node t (parent_of n)))) ≡ true → o ≡ Some (parent_of (the_node t k)) → ⊥
+      go n same directory (inl top) stands =
           let is_root : k ≡ root = eqb-true k root top in
           let up : parent_of (the_node t root) ≡ root = eqb-true _ root v.root_is_top in
           let here : parent_of (the_node t k) ≡ k = subst (λ (j : ℕ). parent_of (the_node t j) ≡ j) (sym is_root) up in
           λ i. away (i ∙ ap Some here)
-      go n same folder (inr lower) stands =
-          let holds : list_any (λ e. e.fileid == k) (entries (the_node t (parent_of n))) ≡ true = rw (folder, lower) at stands in
+      go n same directory (inr lower) stands =
+          let holds : list_any (λ e. e.fileid == k) (entries (the_node t (parent_of n))) ≡ true = rw (directory, lower) at stands in
           let in_parent : has (the_node t (parent_of (the_node t k))) k ≡ true = subst (λ (m : Node). has (the_node t (parent_of m)) k ≡ true) (sym same) holds in
           has_away (parent_of (the_node t k)) k in_parent
 
-  ways_kept : (m k : ℕ) → is_folder (the_node t k) ≡ true → (o ≡ Some k → ⊥) → ancestors c m k ≡ ancestors t m k
+  ways_kept : (m k : ℕ) → is_directory (the_node t k) ≡ true → (o ≡ Some k → ⊥) → ancestors c m k ≡ ancestors t m k
   ways_kept zero k h away = refl
-  ways_kept (suc m) k h away = ap (λ (r : List ℕ). k ∷ r) (ap (ancestors c m) (cleared_parent k away) ∙ ways_kept m (parent_of (the_node t k)) (the_parent_is_folder t v k h) (parent_away k h away))
+  ways_kept (suc m) k h away = ap (λ (r : List ℕ). k ∷ r) (ap (ancestors c m) (cleared_parent k away) ∙ ways_kept m (parent_of (the_node t k)) (the_parent_is_directory t v k h) (parent_away k h away))
 
-  up_to_root : (k : ℕ) (n : Node) → node_at t.nodes k ≡ Some n → is_folder n ≡ true → list_any (λ d. d == root) (ancestors t (length t.nodes) k) ≡ true
-  up_to_root k n at folder = go (cases_Bool (k == root)) (each-node_at (λ k n. not (is_folder n) || k == root || is_at_or_below t k root) t.nodes k n v.ways_lead_up at)
+  up_to_root : (k : ℕ) (n : Node) → node_at t.nodes k ≡ Some n → is_directory n ≡ true → list_any (λ d. d == root) (ancestors t (length t.nodes) k) ≡ true
+  up_to_root k n at directory = go (cases_Bool (k == root)) (each-node_at (λ k n. not (is_directory n) || k == root || is_at_or_below t k root) t.nodes k n v.ways_lead_up at)
     where
       some_node : (ns : List (ℕ × Node)) → node_at ns k ≡ Some n → (k == root) ≡ true → list_any (λ d. d == root) (ancestors t (length ns) k) ≡ true
       some_node [] at e = absurd (cc)
       some_node (m ∷ ms) at e = or_left _ _ e
 
-      go : ((k == root) ≡ true) ⊎ ((k == root) ≡ false) → (not (is_folder n) || k == root || is_at_or_below t k root) ≡ true → list_any (λ d. d == root) (ancestors t (length t.nodes) k) ≡ true
+      go : ((k == root) ≡ true) ⊎ ((k == root) ≡ false) → (not (is_directory n) || k == root || is_at_or_below t k root) ≡ true → list_any (λ d. d == root) (ancestors t (length t.nodes) k) ≡ true
       go (inl e) h = some_node t.nodes at e
-      go (inr e) h = rw (folder, e) at h
+      go (inr e) h = rw (directory, e) at h
 
   -- the way up from the directory is as before
-  pub cleared_avoids : (f : ℕ) (dt : Node) → node_at t.nodes to ≡ Some dt → is_folder dt ≡ true → (o ≡ Some to → ⊥) → is_at_or_below t to f ≡ false → Avoids c f to
-  cleared_avoids f dt at folder away below =
-      let same : ancestors c (length t.nodes) to ≡ ancestors t (length t.nodes) to = ways_kept (length t.nodes) to (ap (λ (o : Option Node). is_folder (unwrap_or o no_node)) at ∙ folder) away in
+  pub cleared_avoids : (f : ℕ) (dt : Node) → node_at t.nodes to ≡ Some dt → is_directory dt ≡ true → (o ≡ Some to → ⊥) → is_at_or_below t to f ≡ false → Avoids c f to
+  cleared_avoids f dt at directory away below =
+      let same : ancestors c (length t.nodes) to ≡ ancestors t (length t.nodes) to = ways_kept (length t.nodes) to (ap (λ (o : Option Node). is_directory (unwrap_or o no_node)) at ∙ directory) away in
       record {
         steps = length t.nodes;
-        up = ap (list_any (λ d. d == root)) same ∙ up_to_root to dt at folder;
+        up = ap (list_any (λ d. d == root)) same ∙ up_to_root to dt at directory;
         apart = ap (list_any (λ d. d == f)) same ∙ below;
       }
 
-  listing_at : (k : ℕ) → (o ≡ Some k → ⊥) → is_folder (the_node t k) ≡ true → listing_of (the_node c k) ≡ cond (to == k) (without_entry (listing_of (the_node t k)) name) (listing_of (the_node t k))
-  listing_at k away is = ap folder_listing (g.content k away) ∙ go (to == k)
+  listing_at : (k : ℕ) → (o ≡ Some k → ⊥) → is_directory (the_node t k) ≡ true → listing_of (the_node c k) ≡ cond (to == k) (without_entry (listing_of (the_node t k)) name) (listing_of (the_node t k))
+  listing_at k away is = ap directory_listing (g.content k away) ∙ go (to == k)
     where
-      go : (b : Bool) → folder_listing (cond b (with_listing (λ l. without_entry l name) (the_node t k).content) (the_node t k).content) ≡ cond b (without_entry (listing_of (the_node t k)) name) (listing_of (the_node t k))
+      go : (b : Bool) → directory_listing (cond b (with_listing (λ l. without_entry l name) (the_node t k).content) (the_node t k).content) ≡ cond b (without_entry (listing_of (the_node t k)) name) (listing_of (the_node t k))
       go true = listing-with_listing (λ l. without_entry l name) (the_node t k).content is
       go false = refl
 
 -- the old name goes and the new one comes
-move_valid : (t : Tree) (now : Moment) (from : ℕ) (from_name : List ℕ) (to : ℕ) (to_name : List ℕ) (f : ℕ) (df dt : Node) → IsValidTree t → node_at t.nodes from ≡ Some df → is_folder df ≡ true → node_at t.nodes to ≡ Some dt → is_folder dt ≡ true → named t from from_name ≡ Some f → is_same (Some f) (named t to to_name) ≡ false → length to_name ≤ name_most → AllPassed (move_rules t from from_name to to_name f) → IsValidTree (move_name t now from from_name to to_name f)
-move_valid t now from from_name to to_name f df dt v at_from from_folder at_to to_folder found differ short p = done
+move_valid : (t : Tree) (now : Moment) (from : ℕ) (from_name : List ℕ) (to : ℕ) (to_name : List ℕ) (f : ℕ) (df dt : Node) → IsValidTree t → node_at t.nodes from ≡ Some df → is_directory df ≡ true → node_at t.nodes to ≡ Some dt → is_directory dt ≡ true → named t from from_name ≡ Some f → is_same (Some f) (named t to to_name) ≡ false → length to_name ≤ max_name_bytes → AllPassed (move_rules t from from_name to to_name f) → IsValidTree (move_name t now from from_name to to_name f)
+move_valid t now from from_name to to_name f df dt v at_from from_directory at_to to_directory found differ short p = done
   where
     both : Cleared t (remove_name t now to to_name) to to_name (named t to to_name) × AllPassed (entry_room_rules (staying t from from_name to to_name) to_name)
-    both = cleared t now to to_name dt (the_node t f) (entry_room_rules (staying t from from_name to to_name) to_name) v at_to to_folder (named t to to_name) refl p.1
+    both = cleared t now to to_name dt (the_node t f) (entry_room_rules (staying t from from_name to to_name) to_name) v at_to to_directory (named t to to_name) refl p.1
 
     g : Cleared t (remove_name t now to to_name) to to_name (named t to to_name)
     g = both.0
 
-    the_from : is_folder (the_node t from) ≡ true
-    the_from = ap (λ (o : Option Node). is_folder (unwrap_or o no_node)) at_from ∙ from_folder
+    the_from : is_directory (the_node t from) ≡ true
+    the_from = ap (λ (o : Option Node). is_directory (unwrap_or o no_node)) at_from ∙ from_directory
 
-    the_to : is_folder (the_node t to) ≡ true
-    the_to = ap (λ (o : Option Node). is_folder (unwrap_or o no_node)) at_to ∙ to_folder
+    the_to : is_directory (the_node t to) ≡ true
+    the_to = ap (λ (o : Option Node). is_directory (unwrap_or o no_node)) at_to ∙ to_directory
 
     f_away : named t to to_name ≡ Some f → ⊥
     f_away e =
@@ -272,11 +272,11 @@ move_valid t now from from_name to to_name f df dt v at_from from_folder at_to t
     to_away : named t to to_name ≡ Some to → ⊥
     to_away e = named_away t (remove_name t now to to_name) to to_name (named t to to_name) v g to to_name to e e
 
-    from_c : is_folder (the_node (remove_name t now to to_name) from) ≡ true
-    from_c = cleared_folder t (remove_name t now to to_name) to to_name (named t to to_name) v g from from_away ∙ the_from
+    from_c : is_directory (the_node (remove_name t now to to_name) from) ≡ true
+    from_c = cleared_directory t (remove_name t now to to_name) to to_name (named t to to_name) v g from from_away ∙ the_from
 
-    to_c : is_folder (the_node (remove_name t now to to_name) to) ≡ true
-    to_c = cleared_folder t (remove_name t now to to_name) to to_name (named t to to_name) v g to to_away ∙ the_to
+    to_c : is_directory (the_node (remove_name t now to to_name) to) ≡ true
+    to_c = cleared_directory t (remove_name t now to to_name) to to_name (named t to to_name) v g to to_away ∙ the_to
 
     df' : (n : Node) × (node_at (remove_name t now to to_name).nodes from ≡ Some n)
     df' = some_of (node_at (remove_name t now to to_name).nodes from) (there_of (node_at (remove_name t now to to_name).nodes from) from_c)
@@ -312,8 +312,8 @@ move_valid t now from from_name to to_name f df dt v at_from from_folder at_to t
     f_is : the_node (remove_name t now to to_name) f ≡ there_f.0
     f_is = ap (λ (o : Option Node). unwrap_or o no_node) there_f.1
 
-    kind_f : is_folder there_f.0 ≡ is_folder (the_node t f)
-    kind_f = ap is_folder (sym f_is) ∙ cleared_folder t (remove_name t now to to_name) to to_name (named t to to_name) v g f f_away
+    kind_f : is_directory there_f.0 ≡ is_directory (the_node t f)
+    kind_f = ap is_directory (sym f_is) ∙ cleared_directory t (remove_name t now to to_name) to to_name (named t to to_name) v g f f_away
 
     f_not_root : (f == root) ≡ false
     f_not_root =
@@ -321,27 +321,27 @@ move_valid t now from from_name to to_name f df dt v at_from from_folder at_to t
         let id : found_id (entries df) from_name ≡ Some f = subst (λ (n : Node). found_id (entries n) from_name ≡ Some f) (ap (λ (o : Option Node). unwrap_or o no_node) at_from) found in
         not-true _ (found_in (λ k. not (k == root)) from_name (entries df) f id none)
 
-    space : size_of_listing (cond (from == to) (without_entry (listing_of dt'.0) from_name) (listing_of dt'.0)) + size_of_name to_name ≤ directory_most
-    space = subst (λ (l : Listing). size_of_listing (cond (from == to) (without_entry l from_name) l) + size_of_name to_name ≤ directory_most) (sym listing_d) (ltb-false directory_most _ both.1.0)
+    space : size_of_listing (cond (from == to) (without_entry (listing_of dt'.0) from_name) (listing_of dt'.0)) + size_of_name to_name ≤ max_directory_bytes
+    space = subst (λ (l : Listing). size_of_listing (cond (from == to) (without_entry l from_name) l) + size_of_name to_name ≤ max_directory_bytes) (sym listing_d) (ltb-false max_directory_bytes _ both.1.0)
 
-    cookie : (listing_of dt'.0).next_cookie < cookie_most
-    cookie = subst (λ (l : Listing). l.next_cookie < cookie_most) (sym listing_d) (subst (λ (m : ℕ). m < cookie_most) (go (from == to)) (leb-false cookie_most _ both.1.1.0))
+    cookie : (listing_of dt'.0).next_cookie < max_cookie
+    cookie = subst (λ (l : Listing). l.next_cookie < max_cookie) (sym listing_d) (subst (λ (m : ℕ). m < max_cookie) (go (from == to)) (leb-false max_cookie _ both.1.1.0))
       where
         go : (b : Bool) → (cond b (without_entry (without_entry (listing_of (the_node t to)) to_name) from_name) (without_entry (listing_of (the_node t to)) to_name)).next_cookie ≡ (listing_of (the_node t to)).next_cookie
         go true = refl
         go false = refl
 
-    avoids : is_folder there_f.0 ≡ true → Avoids (remove_name t now to to_name) f to
+    avoids : is_directory there_f.0 ≡ true → Avoids (remove_name t now to to_name) f to
     avoids is =
-        let source : is_folder (the_node t f) ≡ true = sym kind_f ∙ is in
+        let source : is_directory (the_node t f) ≡ true = sym kind_f ∙ is in
         let below : is_at_or_below t to f ≡ false = ap (λ (b : Bool). b && is_at_or_below t to f) (sym source) ∙ p.0 in
-        cleared_avoids t (remove_name t now to to_name) to to_name (named t to to_name) v g f dt at_to to_folder to_away below
+        cleared_avoids t (remove_name t now to to_name) to to_name (named t to to_name) v g f dt at_to to_directory to_away below
 
-    folder_d : is_folder dt'.0 ≡ true
-    folder_d = sym (ap is_folder to_is) ∙ to_c
+    directory_d : is_directory dt'.0 ≡ true
+    directory_d = sym (ap is_directory to_is) ∙ to_c
 
-    folder_f : is_folder df'.0 ≡ true
-    folder_f = sym (ap is_folder from_is) ∙ from_c
+    directory_f : is_directory df'.0 ≡ true
+    directory_f = sym (ap is_directory from_is) ∙ from_c
 
     found_d : found_id (entries df'.0) from_name ≡ Some f
     found_d = ap (λ (n : Node). found_id (entries n) from_name) (sym from_is) ∙ found_c
@@ -349,16 +349,16 @@ move_valid t now from from_name to to_name f df dt v at_from from_folder at_to t
     moved : Tree
     moved = edit (edit (edit (remove_name t now to to_name) from (λ d. leave now from_name d)) to (λ d. enter now to_name f d)) f (λ n. stamp now n)
 
-    plain : is_folder (the_node t f) ≡ false → IsValidTree moved
-    plain k = moved_plain (remove_name t now to to_name) now from to f from_name to_name df'.0 dt'.0 there_f.0 g.valid df'.1 folder_f dt'.1 folder_d found_d there_f.1 f_not_root free short space cookie avoids (kind_f ∙ k)
+    plain : is_directory (the_node t f) ≡ false → IsValidTree moved
+    plain k = moved_plain (remove_name t now to to_name) now from to f from_name to_name df'.0 dt'.0 there_f.0 g.valid df'.1 directory_f dt'.1 directory_d found_d there_f.1 f_not_root free short space cookie avoids (kind_f ∙ k)
 
-    folder : is_folder (the_node t f) ≡ true → IsValidTree (move_folder moved from to f)
-    folder k = moved_folder (remove_name t now to to_name) now from to f from_name to_name df'.0 dt'.0 there_f.0 g.valid df'.1 folder_f dt'.1 folder_d found_d there_f.1 f_not_root free short space cookie avoids (kind_f ∙ k)
+    directory : is_directory (the_node t f) ≡ true → IsValidTree (move_directory moved from to f)
+    directory k = moved_directory (remove_name t now to to_name) now from to f from_name to_name df'.0 dt'.0 there_f.0 g.valid df'.1 directory_f dt'.1 directory_d found_d there_f.1 f_not_root free short space cookie avoids (kind_f ∙ k)
 
     done : IsValidTree (move_name t now from from_name to to_name f)
-    done = cond_both (is_folder (the_node t f)) (move_folder moved from to f) moved IsValidTree folder plain
+    done = cond_both (is_directory (the_node t f)) (move_directory moved from to f) moved IsValidTree directory plain
 
-pub rename_kept : (from to : At) → KeepsValid (Call.Rename from to)
+pub rename_kept : (from to : DirOpArgs) → KeepsValid (Call.Rename from to)
 unfolding changed_tree refusal_of rules_of
 rename_kept at to_at = kept (Call.Rename at to_at) (λ t cred now none v. go t cred now (passed (rename_rules t cred at to_at) none) v)
   where
@@ -368,15 +368,15 @@ rename_kept at to_at = kept (Call.Rename at to_at) (λ t cred now none v. go t c
         let to : ℕ = fileid_in to_at.directory in
         let place = is_there (node_at t.nodes from) p.1.0 in
         let goal = is_there (node_at t.nodes to) p.1.1.1.0 in
-        let folder = folder_there t from place.0 place.1 p.1.1.1.1.0 in
-        let to_folder = folder_there t to goal.0 goal.1 p.1.1.1.1.1.0 in
-        let short = ltb-false name_most (length to_at.name) p.1.1.1.1.1.1.1.1.0 in
+        let directory = directory_there t from place.0 place.1 p.1.1.1.1.0 in
+        let to_directory = directory_there t to goal.0 goal.1 p.1.1.1.1.1.0 in
+        let short = ltb-false max_name_bytes (length to_at.name) p.1.1.1.1.1.1.1.1.0 in
         let source = some_named (named t from at.name) p.1.1.1.1.1.1.1.1.1.1.1.1.1.1.1.0 in
-        by_same t now place.0 goal.0 source.0 v place.1 folder goal.1 to_folder source.1 short (is_same (named t from at.name) (named t to to_at.name)) refl p.1.1.1.1.1.1.1.1.1.1.1.1.1.1.1.1
+        by_same t now place.0 goal.0 source.0 v place.1 directory goal.1 to_directory source.1 short (is_same (named t from at.name) (named t to to_at.name)) refl p.1.1.1.1.1.1.1.1.1.1.1.1.1.1.1.1
       where
-        by_same : (t : Tree) (now : Moment) (df dt : Node) (f : ℕ) → IsValidTree t → node_at t.nodes (fileid_in at.directory) ≡ Some df → is_folder df ≡ true → node_at t.nodes (fileid_in to_at.directory) ≡ Some dt → is_folder dt ≡ true → named t (fileid_in at.directory) at.name ≡ Some f → length to_at.name ≤ name_most → (b : Bool) → is_same (named t (fileid_in at.directory) at.name) (named t (fileid_in to_at.directory) to_at.name) ≡ b → AllPassed (cond b [] (move_rules t (fileid_in at.directory) at.name (fileid_in to_at.directory) to_at.name (unwrap_or (named t (fileid_in at.directory) at.name) 0))) → IsValidTree (cond b t (move_name t now (fileid_in at.directory) at.name (fileid_in to_at.directory) to_at.name (unwrap_or (named t (fileid_in at.directory) at.name) 0)))
-        by_same t now df dt f v at_from folder at_to to_folder found short true e p = v
-        by_same t now df dt f v at_from folder at_to to_folder found short false e p =
+        by_same : (t : Tree) (now : Moment) (df dt : Node) (f : ℕ) → IsValidTree t → node_at t.nodes (fileid_in at.directory) ≡ Some df → is_directory df ≡ true → node_at t.nodes (fileid_in to_at.directory) ≡ Some dt → is_directory dt ≡ true → named t (fileid_in at.directory) at.name ≡ Some f → length to_at.name ≤ max_name_bytes → (b : Bool) → is_same (named t (fileid_in at.directory) at.name) (named t (fileid_in to_at.directory) to_at.name) ≡ b → AllPassed (cond b [] (move_rules t (fileid_in at.directory) at.name (fileid_in to_at.directory) to_at.name (unwrap_or (named t (fileid_in at.directory) at.name) 0))) → IsValidTree (cond b t (move_name t now (fileid_in at.directory) at.name (fileid_in to_at.directory) to_at.name (unwrap_or (named t (fileid_in at.directory) at.name) 0)))
+        by_same t now df dt f v at_from directory at_to to_directory found short true e p = v
+        by_same t now df dt f v at_from directory at_to to_directory found short false e p =
             let differ : is_same (Some f) (named t (fileid_in to_at.directory) to_at.name) ≡ false = subst (λ (s : Option ℕ). is_same s (named t (fileid_in to_at.directory) to_at.name) ≡ false) found e in
             let rules : AllPassed (move_rules t (fileid_in at.directory) at.name (fileid_in to_at.directory) to_at.name f) = subst (λ (s : Option ℕ). AllPassed (move_rules t (fileid_in at.directory) at.name (fileid_in to_at.directory) to_at.name (unwrap_or s 0))) found p in
-            subst (λ (s : Option ℕ). IsValidTree (move_name t now (fileid_in at.directory) at.name (fileid_in to_at.directory) to_at.name (unwrap_or s 0))) (sym found) (move_valid t now (fileid_in at.directory) at.name (fileid_in to_at.directory) to_at.name f df dt v at_from folder at_to to_folder found differ short rules)
+            subst (λ (s : Option ℕ). IsValidTree (move_name t now (fileid_in at.directory) at.name (fileid_in to_at.directory) to_at.name (unwrap_or s 0))) (sym found) (move_valid t now (fileid_in at.directory) at.name (fileid_in to_at.directory) to_at.name f df dt v at_from directory at_to to_directory found differ short rules)

@@ -4,23 +4,23 @@ use Rattle.std.specs.Prelude.{Bool, cond, not, ◌&&◌, ◌||◌, ◌==◌, nat
 use Rattle.std.specs.List.{list_all, list_any}
 use Rattle.std.proofs.lemmas.Bool.{and_parts, and_from, eqb-true, ltb-true, le-ltb}
 use Rattle.sky_base.specs.Listing.{Listing, Entry}
-use Rattle.sky_nfs.specs.Tree.{Tree, Node, node_at, with_node, the_node, no_node, root, is_folder, listing_of, parent_of, all_entries, names_of, links_of, subfolders, ancestors, is_at_or_below}
-use Rattle.sky_base.specs.Limits.{links_most}
+use Rattle.sky_nfs.specs.Tree.{Tree, Node, node_at, with_node, the_node, no_node, root, is_directory, listing_of, parent_of, all_entries, names_of, links_of, subdirectories, ancestors, is_at_or_below}
+use Rattle.sky_base.specs.Limits.{max_links}
 use Rattle.sky_nfs.specs.Changes.{put}
-use Rattle.sky_nfs.specs.Validity.{IsValidTree, ascends_below, are_distinct, is_within, each_node, each_lower_folder}
+use Rattle.sky_nfs.specs.Validity.{IsValidTree, ascends_below, are_distinct, is_within, each_node, each_lower_directory}
 
 Nodes : Type 0
 Nodes = List (ℕ × Node)
 
 -- two nodes that differ at most in what the shape of a tree doesn't show
 pub record SameShape (a b : Node) : Type 0 where
-  pub folder : is_folder a ≡ is_folder b
+  pub directory : is_directory a ≡ is_directory b
   pub parent : parent_of a ≡ parent_of b
   pub listing : listing_of a ≡ listing_of b
   pub nlink : a.nlink ≡ b.nlink
 
 pub SameShape_refl : (a : Node) → SameShape a a
-SameShape_refl a = record { folder = refl; parent = refl; listing = refl; nlink = refl }
+SameShape_refl a = record { directory = refl; parent = refl; listing = refl; nlink = refl }
 
 -- the same nodes but for that
 pub data SameShapes : List (ℕ × Node) → List (ℕ × Node) → Type 0 where
@@ -155,37 +155,37 @@ module _ (t : Tree) (ms : List (ℕ × Node)) (same : SameShapes t.nodes ms) whe
   same_names : (fileid : ℕ) → names_of t fileid ≡ names_of with_nodes fileid
   same_names fileid = ap (count_by (λ (e : Entry). e.fileid == fileid)) (same_entries same)
 
-  same_subfolders : (a b : Node) → SameShape a b → subfolders t a ≡ subfolders with_nodes b
-  same_subfolders a b s =
-      let tests : (λ (e : Entry). is_folder (the_node t e.fileid)) ≡ (λ (e : Entry). is_folder (the_node with_nodes e.fileid)) = agree (λ e. (shape_at same e.fileid).folder) in
-      ap (λ (l : Listing). count_by (λ e. is_folder (the_node t e.fileid)) l.entries) s.listing ∙ ap (λ (test : Entry → Bool). count_by test (listing_of b).entries) tests
+  same_subdirectories : (a b : Node) → SameShape a b → subdirectories t a ≡ subdirectories with_nodes b
+  same_subdirectories a b s =
+      let tests : (λ (e : Entry). is_directory (the_node t e.fileid)) ≡ (λ (e : Entry). is_directory (the_node with_nodes e.fileid)) = agree (λ e. (shape_at same e.fileid).directory) in
+      ap (λ (l : Listing). count_by (λ e. is_directory (the_node t e.fileid)) l.entries) s.listing ∙ ap (λ (test : Entry → Bool). count_by test (listing_of b).entries) tests
 
-  same_lower : (p q : ℕ → Node → Bool) → ((k : ℕ) (a b : Node) → SameShape a b → p k a ≡ q k b) → each_lower_folder p t ≡ each_lower_folder q with_nodes
-  same_lower p q each = same_test (λ k n. not (is_folder n) || k == root || p k n) (λ k n. not (is_folder n) || k == root || q k n) (λ k a b s. cc (s.folder, each k a b s)) same
+  same_lower : (p q : ℕ → Node → Bool) → ((k : ℕ) (a b : Node) → SameShape a b → p k a ≡ q k b) → each_lower_directory p t ≡ each_lower_directory q with_nodes
+  same_lower p q each = same_test (λ k n. not (is_directory n) || k == root || p k n) (λ k n. not (is_directory n) || k == root || q k n) (λ k a b s. cc (s.directory, each k a b s)) same
 
   same_links : (k : ℕ) (a b : Node) → SameShape a b → links_of t k a ≡ links_of with_nodes k b
-  same_links k a b s = cc (s.folder, same_names k, same_subfolders a b s)
+  same_links k a b s = cc (s.directory, same_names k, same_subdirectories a b s)
 
   -- where also the new modes and contents are within the limits
   pub same_valid : IsValidTree t → IsTrue (each_node (λ fileid node. nat_lt node.mode 0o10000) with_nodes) → IsTrue (each_node (λ fileid node. is_within node.content) with_nodes) → IsValidTree with_nodes
   same_valid v modes contents = record {
     fileids = rw (← same_keys same) v.fileids;
-    root_is_folder = sym (shape_at same root).folder ∙ v.root_is_folder;
+    root_is_directory = sym (shape_at same root).directory ∙ v.root_is_directory;
     root_is_top = rw (← (shape_at same root).parent) v.root_is_top;
     entries_name_nodes =
         let tests : (λ (e : Entry). is_some (node_at t.nodes e.fileid)) ≡ (λ (e : Entry). is_some (node_at ms e.fileid)) = agree (λ e. is_some-node_at same e.fileid) in
         sym (ap (list_all (λ (e : Entry). is_some (node_at t.nodes e.fileid))) (same_entries same) ∙ ap (λ (test : Entry → Bool). list_all test (all_entries with_nodes)) tests) ∙ v.entries_name_nodes;
     none_names_root = rw (← same_entries same) v.none_names_root;
     nodes_have_names = sym (same_test (λ k n. k == root || nat_le 1 (names_of t k)) (λ k n. k == root || nat_le 1 (names_of with_nodes k)) (λ k a b s. cc (same_names k)) same) ∙ v.nodes_have_names;
-    folders_have_one = sym (same_lower (λ k n. names_of t k == 1) (λ k n. names_of with_nodes k == 1) (λ k a b s. cc (same_names k))) ∙ v.folders_have_one;
-    folders_stand_in_parents = sym (same_lower (λ k n. list_any (λ e. e.fileid == k) (listing_of (the_node t (parent_of n))).entries) (λ k n. list_any (λ e. e.fileid == k) (listing_of (the_node with_nodes (parent_of n))).entries) (λ k a b s. ap (λ (p : ℕ). list_any (λ e. e.fileid == k) (listing_of (the_node t p)).entries) s.parent ∙ ap (λ (l : Listing). list_any (λ e. e.fileid == k) l.entries) (shape_at same (parent_of b)).listing)) ∙ v.folders_stand_in_parents;
+    directories_have_one = sym (same_lower (λ k n. names_of t k == 1) (λ k n. names_of with_nodes k == 1) (λ k a b s. cc (same_names k))) ∙ v.directories_have_one;
+    directories_stand_in_parents = sym (same_lower (λ k n. list_any (λ e. e.fileid == k) (listing_of (the_node t (parent_of n))).entries) (λ k n. list_any (λ e. e.fileid == k) (listing_of (the_node with_nodes (parent_of n))).entries) (λ k a b s. ap (λ (p : ℕ). list_any (λ e. e.fileid == k) (listing_of (the_node t p)).entries) s.parent ∙ ap (λ (l : Listing). list_any (λ e. e.fileid == k) l.entries) (shape_at same (parent_of b)).listing)) ∙ v.directories_stand_in_parents;
     ways_lead_up = sym (same_lower (λ k n. is_at_or_below t k root) (λ k n. is_at_or_below with_nodes k root) (λ k a b s. same_way k root)) ∙ v.ways_lead_up;
     names_differ = sym (same_test (λ k n. are_distinct (map (λ e. e.name) (listing_of n).entries)) (λ k n. are_distinct (map (λ e. e.name) (listing_of n).entries)) (λ k a b s. ap (λ (l : Listing). are_distinct (map (λ e. e.name) l.entries)) s.listing) same) ∙ v.names_differ;
     cookies = sym (same_test (λ k n. ascends_below (listing_of n).next_cookie (map (λ e. e.cookie) (listing_of n).entries)) (λ k n. ascends_below (listing_of n).next_cookie (map (λ e. e.cookie) (listing_of n).entries)) (λ k a b s. ap (λ (l : Listing). ascends_below l.next_cookie (map (λ e. e.cookie) l.entries)) s.listing) same) ∙ v.cookies;
     links = sym (same_test (λ k n. n.nlink == links_of t k n) (λ k n. n.nlink == links_of with_nodes k n) (λ k a b s. cc (s.nlink, same_links k a b s)) same) ∙ v.links;
     modes = modes;
     contents_within = contents;
-    links_within = sym (same_test (λ k n. is_folder n || nat_le n.nlink links_most) (λ k n. is_folder n || nat_le n.nlink links_most) (λ k a b s. cc (s.folder, s.nlink)) same) ∙ v.links_within;
+    links_within = sym (same_test (λ k n. is_directory n || nat_le n.nlink max_links) (λ k n. is_directory n || nat_le n.nlink max_links) (λ k a b s. cc (s.directory, s.nlink)) same) ∙ v.links_within;
     nodes_within = rw (← same_count same) v.nodes_within;
     fileid_within = v.fileid_within;
     volume_within = v.volume_within;

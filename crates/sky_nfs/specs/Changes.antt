@@ -6,7 +6,7 @@ use Rattle.sky_base.specs.Listing.{Listing, with_entry, without_entry}
 use Rattle.sky_nfs.specs.declared.call.SetAttr.{SetAttr}
 use Rattle.sky_nfs.specs.declared.call.SetTime.{SetTime}
 use Rattle.sky_nfs.specs.declared.call.SetTime.TheVariants.{Keep, Server, Client}
-use Rattle.sky_nfs.specs.Tree.{Tree, Node, Content, File, Folder, Link, with_node, without_node, the_node, is_folder, named}
+use Rattle.sky_nfs.specs.Tree.{Tree, Node, Content, File, Directory, Link, with_node, without_node, the_node, is_directory, named}
 
 -- the tree with this node at that fileid
 abbrev pub put : Tree → ℕ → Node → Tree
@@ -51,19 +51,19 @@ written bytes offset piece = resized bytes offset ++ piece ++ drop (offset + len
 -- what a node holds, with its bytes changed
 abbrev pub with_bytes : (List ℕ → List ℕ) → Content → Content
 with_bytes change (File bytes) = File (change bytes)
-with_bytes change (Folder parent listing) = Folder parent listing
+with_bytes change (Directory parent listing) = Directory parent listing
 with_bytes change (Link text) = Link text
 
 -- what a node holds, with its listing changed
 abbrev pub with_listing : (Listing → Listing) → Content → Content
 with_listing change (File bytes) = File bytes
-with_listing change (Folder parent listing) = Folder parent (change listing)
+with_listing change (Directory parent listing) = Directory parent (change listing)
 with_listing change (Link text) = Link text
 
 -- what a node holds, with another parent
 abbrev pub with_parent : ℕ → Content → Content
 with_parent new (File bytes) = File bytes
-with_parent new (Folder parent listing) = Folder new listing
+with_parent new (Directory parent listing) = Directory new listing
 with_parent new (Link text) = Link text
 
 -- a time that is set: how, the moment of the call, and the time before
@@ -102,7 +102,7 @@ new_node cred now mode set content = with_attributes set now (record {
 })
   where
     holds_entries : Content → Bool
-    holds_entries (Folder parent listing) = true
+    holds_entries (Directory parent listing) = true
     holds_entries _ = false
 
 -- a directory with an entry more
@@ -123,7 +123,7 @@ unlink t now fileid = cond (nat_le (the_node t fileid).nlink 1) (erase t fileid)
 
 -- the node of an entry that went: a directory goes, and its parent has a subdirectory less
 abbrev pub release : Tree → Moment → ℕ → ℕ → Tree
-release t now dir fileid = cond (is_folder (the_node t fileid)) (edit (erase t fileid) dir drop_link) (unlink t now fileid)
+release t now dir fileid = cond (is_directory (the_node t fileid)) (edit (erase t fileid) dir drop_link) (unlink t now fileid)
 
 -- the tree with an entry gone; the same tree where the directory has no such name
 abbrev pub remove_name : Tree → Moment → ℕ → List ℕ → Tree

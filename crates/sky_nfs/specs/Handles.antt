@@ -1,4 +1,4 @@
--- How a handle (nfs_fh3, RFC 1813 section 2.6) is spelled, and which node it names.
+-- How a handle (nfs_fh3, RFC 1813 section 2.6) is encoded, and which node it names.
 use Rattle.std.specs.Prelude.{ℕ, Bool, ◌&&◌, ◌==◌, List, ◌++◌, length, take, drop, is_some}
 use Rattle.std.specs.Int.{w64, to_be_bytes, from_be_bytes}
 use Rattle.sky_nfs.specs.Tree.{Tree, node_at}
@@ -8,11 +8,11 @@ abbrev pub handle_bytes : ℕ → ℕ → List ℕ
 handle_bytes volume fileid = to_be_bytes w64 volume ++ to_be_bytes w64 fileid
 
 -- the volume in a handle's bytes
-abbrev pub volume_in : List ℕ → ℕ
+unfoldable pub volume_in : List ℕ → ℕ
 volume_in fh = from_be_bytes w64 (take 8 fh)
 
 -- the fileid in a handle's bytes
-abbrev pub fileid_in : List ℕ → ℕ
+unfoldable pub fileid_in : List ℕ → ℕ
 fileid_in fh = from_be_bytes w64 (drop 8 fh)
 
 -- whether bytes are the handle of a volume, of whichever fileid

@@ -125,7 +125,7 @@ pub record Outcome : Type 0 where
   pub tree : Tree
   pub answer : Answer
 
--- what a call does. The epoch shows in write verifiers alone
+-- what a call does. Only write verifiers tell the epoch
 unfoldable pub procedure : Tree → ℕ → Cred → Call → Moment → Outcome
 procedure t epoch cred call now =
     let after = tree_after t cred call now in

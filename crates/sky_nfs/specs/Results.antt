@@ -1,6 +1,8 @@
 -- The attributes that answers carry, and results or a refusal in their place (RFC 1813 section 2.6).
 use Rattle.std.specs.Prelude.{ℕ, cond, List, Option, Some, None, Result, Ok, Err}
 use Rattle.sky_base.specs.declared.attr.Attr.{Attr}
+use Rattle.sky_nfs.specs.declared.answer.Answer.{Answer}
+use Rattle.sky_nfs.specs.declared.answer.Answer.TheVariants as answer
 use Rattle.sky_nfs.specs.declared.answer.Refused.{Refused}
 use Rattle.sky_nfs.specs.declared.answer.WccAttr.{WccAttr}
 use Rattle.sky_nfs.specs.declared.answer.WccData.{WccData}
@@ -28,3 +30,9 @@ wcc before after fh = record { before = pre_attributes before fh; after = post_a
 abbrev pub results_or : {R A : Type 0} → Option NfsStatus → R → A → Result R (Refused A)
 results_or None results attributes = Ok results
 results_or (Some status) results attributes = Err (record { status = status; attributes = attributes })
+
+-- an answer with this write verifier in the place of its own. Only the results of WRITE and COMMIT have one
+abbrev pub with_verifier : ℕ → Answer → Answer
+with_verifier verifier (answer.Write (Ok results)) = answer.Write (Ok (record results { verifier = verifier }))
+with_verifier verifier (answer.Commit (Ok results)) = answer.Commit (Ok (record results { verifier = verifier }))
+with_verifier verifier other = other

@@ -6,14 +6,14 @@ use Rattle.std.specs.Str.{bytes_eq}
 use Rattle.sky_base.specs.declared.cred.Cred.{Cred}
 use Rattle.sky_base.specs.declared.cred.Want.{Want}
 use Rattle.sky_base.specs.Access.{may, may_or_owns, is_owner_or_superuser, may_set_owners}
-use Rattle.sky_base.specs.Limits.{name_most, directory_most, cookie_most, nodes_most, fileid_most, file_most}
+use Rattle.sky_base.specs.Limits.{max_name_bytes, max_directory_bytes, max_cookie, max_nodes, max_fileid, max_file_bytes}
 use Rattle.sky_base.specs.Listing.{Listing, size_of_listing, size_of_name}
 use Rattle.sky_nfs.specs.declared.call.SetAttr.{SetAttr}
 use Rattle.sky_nfs.specs.declared.call.SetTime.{SetTime}
 use Rattle.sky_nfs.specs.declared.call.SetTime.TheVariants.{Keep, Server, Client}
 use Rattle.sky_nfs.specs.declared.status.NfsStatus.{NfsStatus}
 use Rattle.sky_nfs.specs.declared.status.NfsStatus.TheVariants.{Stale, BadHandle, NotDir, NameTooLong, Acces, NoSpc}
-use Rattle.sky_nfs.specs.Tree.{Tree, node_at, the_node, attributes_at, is_folder, listing_of}
+use Rattle.sky_nfs.specs.Tree.{Tree, node_at, the_node, attributes_at, is_directory, listing_of}
 use Rattle.sky_nfs.specs.Handles.{is_handle_of, fileid_in}
 
 -- rules in the order in which they are tried
@@ -32,12 +32,12 @@ handle_rules t fh =
     (not (is_some (node_at t.nodes (fileid_in fh))), Stale) ∷ []
 
 -- whether no directory stands at a fileid
-abbrev pub is_no_folder : Tree → ℕ → Bool
-is_no_folder t fileid = not (is_folder (the_node t fileid))
+abbrev pub is_no_directory : Tree → ℕ → Bool
+is_no_directory t fileid = not (is_directory (the_node t fileid))
 
 -- a handle of a directory
-abbrev pub folder_rules : Tree → List ℕ → Rules
-folder_rules t fh = handle_rules t fh ++ (is_no_folder t (fileid_in fh), NotDir) ∷ []
+abbrev pub directory_rules : Tree → List ℕ → Rules
+directory_rules t fh = handle_rules t fh ++ (is_no_directory t (fileid_in fh), NotDir) ∷ []
 
 -- the name of the directory itself
 abbrev pub dot : List ℕ
@@ -70,7 +70,7 @@ is_bad_name name = length name == 0 || has_byte 47 name || has_byte 0 name
 -- a name as it may stand in a call
 abbrev pub name_rules : List ℕ → Rules
 name_rules name =
-    (nat_lt name_most (length name), NameTooLong) ∷
+    (nat_lt max_name_bytes (length name), NameTooLong) ∷
     (is_bad_name name, Acces) ∷ []
 
 -- whether a caller lacks a right
@@ -96,25 +96,25 @@ abbrev pub has_bad_time : SetAttr → Bool
 has_bad_time set = is_bad_time set.atime || is_bad_time set.mtime
 
 -- whether a caller may not set these owners of a node with this owner and group
-abbrev pub is_foreign_owner : Cred → ℕ → ℕ → SetAttr → Bool
-is_foreign_owner cred uid gid set = not (may_set_owners cred uid gid set.uid set.gid)
+abbrev pub may_not_set_owners : Cred → ℕ → ℕ → SetAttr → Bool
+may_not_set_owners cred uid gid set = not (may_set_owners cred uid gid set.uid set.gid)
 
 -- whether a size is set that no file may have
 abbrev pub is_too_big : Option ℕ → Bool
 is_too_big None = false
-is_too_big (Some size) = nat_lt file_most size
+is_too_big (Some size) = nat_lt max_file_bytes size
 
 -- room for a new node
 abbrev pub node_room_rules : Tree → Rules
 node_room_rules t =
-    (nat_le nodes_most (length t.nodes), NoSpc) ∷
-    (nat_le fileid_most t.next_fileid, NoSpc) ∷ []
+    (nat_le max_nodes (length t.nodes), NoSpc) ∷
+    (nat_le max_fileid t.next_fileid, NoSpc) ∷ []
 
 -- room for an entry in a listing
 abbrev pub entry_room_rules : Listing → List ℕ → Rules
 entry_room_rules l name =
-    (nat_lt directory_most (size_of_listing l + size_of_name name), NoSpc) ∷
-    (nat_le cookie_most l.next_cookie, NoSpc) ∷ []
+    (nat_lt max_directory_bytes (size_of_listing l + size_of_name name), NoSpc) ∷
+    (nat_le max_cookie l.next_cookie, NoSpc) ∷ []
 
 -- room for a new node under a name of a directory
 abbrev pub new_room_rules : Tree → ℕ → List ℕ → Rules

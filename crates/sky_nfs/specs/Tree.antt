@@ -3,14 +3,14 @@ use Rattle.std.specs.Prelude.{ℕ, zero, suc, ◌+◌, flat_map, count_by, Bool,
 use Rattle.std.specs.List.{list_any}
 use Rattle.sky_base.specs.declared.attr.Attr.{Attr}
 use Rattle.sky_base.specs.declared.attr.Kind.{Kind}
-use Rattle.sky_base.specs.declared.attr.Kind.TheVariants.{Regular, Directory, SymbolicLink}
+use Rattle.sky_base.specs.declared.attr.Kind.TheVariants as kind
 use Rattle.sky_base.specs.declared.moment.Moment.{Moment}
 use Rattle.sky_base.specs.Listing.{Listing, new_listing, size_of_listing, fileid_at, Entry}
 
 -- what a node holds: a file its bytes, a directory its parent's fileid and its entries, a symbolic link its text
 pub data Content : Type 0 where
   File : List ℕ → Content
-  Folder : ℕ → Listing → Content
+  Directory : ℕ → Listing → Content
   Link : List ℕ → Content
 
 -- a node: what it holds, and those of its attributes that don't follow from that.
@@ -48,14 +48,14 @@ without_node ns fileid = filter (λ n. not (n.0 == fileid)) ns
 
 -- the kind of what a node holds (ftype3, RFC 1813 section 2.6)
 abbrev pub kind_of : Content → Kind
-kind_of (File bytes) = Regular
-kind_of (Folder parent listing) = Directory
-kind_of (Link text) = SymbolicLink
+kind_of (File bytes) = kind.Regular
+kind_of (Directory parent listing) = kind.Directory
+kind_of (Link text) = kind.SymbolicLink
 
 -- the size: of a file its length, of a directory that of its entries, of a link the text's length
 abbrev pub size_of : Content → ℕ
 size_of (File bytes) = length bytes
-size_of (Folder parent listing) = size_of_listing listing
+size_of (Directory parent listing) = size_of_listing listing
 size_of (Link text) = length text
 
 -- whether it is a file's
@@ -64,9 +64,9 @@ file_test (File bytes) = true
 file_test _ = false
 
 -- whether it is a directory's
-abbrev pub folder_test : Content → Bool
-folder_test (Folder parent listing) = true
-folder_test _ = false
+abbrev pub directory_test : Content → Bool
+directory_test (Directory parent listing) = true
+directory_test _ = false
 
 -- whether it is a symbolic link's
 abbrev pub link_test : Content → Bool
@@ -79,14 +79,14 @@ file_bytes (File bytes) = bytes
 file_bytes _ = []
 
 -- the listing of a directory, and an empty one of another node
-abbrev pub folder_listing : Content → Listing
-folder_listing (Folder parent listing) = listing
-folder_listing _ = new_listing
+abbrev pub directory_listing : Content → Listing
+directory_listing (Directory parent listing) = listing
+directory_listing _ = new_listing
 
 -- the parent of a directory, and 0 of another node
-abbrev pub folder_parent : Content → ℕ
-folder_parent (Folder parent listing) = parent
-folder_parent _ = 0
+abbrev pub directory_parent : Content → ℕ
+directory_parent (Directory parent listing) = parent
+directory_parent _ = 0
 
 -- the text of a symbolic link, and none of another node
 abbrev pub link_text : Content → List ℕ
@@ -130,7 +130,7 @@ empty_root = record {
   mtime = epoch_start;
   ctime = epoch_start;
   verifier = None;
-  content = Folder root new_listing;
+  content = Directory root new_listing;
 }
 
 -- the empty tree of a volume: the root alone
@@ -164,8 +164,8 @@ abbrev pub is_file : Node → Bool
 is_file node = file_test node.content
 
 -- whether a node is a directory
-abbrev pub is_folder : Node → Bool
-is_folder node = folder_test node.content
+abbrev pub is_directory : Node → Bool
+is_directory node = directory_test node.content
 
 -- whether a node is a symbolic link
 abbrev pub is_link : Node → Bool
@@ -177,11 +177,11 @@ bytes_of node = file_bytes node.content
 
 -- the listing of a directory, and an empty one of another node
 abbrev pub listing_of : Node → Listing
-listing_of node = folder_listing node.content
+listing_of node = directory_listing node.content
 
 -- the fileid of a directory's parent
 abbrev pub parent_of : Node → ℕ
-parent_of node = folder_parent node.content
+parent_of node = directory_parent node.content
 
 -- the text of a symbolic link
 abbrev pub text_of : Node → List ℕ
@@ -209,9 +209,9 @@ abbrev pub names_of : Tree → ℕ → ℕ
 names_of t fileid = count_by (λ e. e.fileid == fileid) (all_entries t)
 
 -- how many directories a directory has in it
-abbrev pub subfolders : Tree → Node → ℕ
-subfolders t node = count_by (λ e. is_folder (the_node t e.fileid)) (listing_of node).entries
+abbrev pub subdirectories : Tree → Node → ℕ
+subdirectories t node = count_by (λ e. is_directory (the_node t e.fileid)) (listing_of node).entries
 
 -- how many links a node has: of a file or a link the entries that name it, of a directory 2 and those in it
 abbrev pub links_of : Tree → ℕ → Node → ℕ
-links_of t fileid node = cond (is_folder node) (2 + subfolders t node) (names_of t fileid)
+links_of t fileid node = cond (is_directory node) (2 + subdirectories t node) (names_of t fileid)

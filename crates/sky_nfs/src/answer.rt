@@ -1,3 +1,5 @@
+//! The answers to calls.
+
 ghost use Rattle.std.specs.Prelude.{◌≡◌};
 
 use super::{Bytes, Handle, NfsStatus};
@@ -7,16 +9,13 @@ use std::marker::Model;
 /// A refusal, with the attributes that go with it.
 #[derive(Clone, Copy, Debug, PartialEq, Eq)]
 pub struct Refused<A> {
-    /// Why.
     pub status: NfsStatus,
-    /// The attributes.
     pub attributes: A,
 }
 
 /// What tells whether an object changed (`wcc_attr`, RFC 1813 section 2.6).
 #[derive(Clone, Copy, Debug, PartialEq, Eq)]
 pub struct WccAttr {
-    /// The size in bytes.
     pub size: u64,
     /// When its content last changed.
     pub mtime: Moment,
@@ -27,26 +26,23 @@ pub struct WccAttr {
 /// An object before and after a call (`wcc_data`, RFC 1813 section 2.6). What isn't told is `None`.
 #[derive(Clone, Copy, Debug, PartialEq, Eq)]
 pub struct WccData {
-    /// Before the call.
     pub before: Option<WccAttr>,
-    /// After the call.
     pub after: Option<Attr>,
 }
 
 /// What LOOKUP found (RFC 1813 section 3.3.3).
 #[derive(Clone, Copy, Debug, PartialEq, Eq)]
-pub struct Found {
-    /// The object's handle.
+pub struct LookupOk {
     pub handle: Handle,
-    /// Its attributes.
+    /// The object's attributes.
     pub object: Option<Attr>,
-    /// Those of the directory.
+    /// The directory's attributes.
     pub directory: Option<Attr>,
 }
 
 /// The rights that a caller has (RFC 1813 section 3.3.4).
 #[derive(Clone, Copy, Debug, PartialEq, Eq)]
-pub struct Granted {
+pub struct AccessOk {
     /// The object's attributes.
     pub object: Option<Attr>,
     /// Those of the rights asked for that the caller has.
@@ -55,27 +51,25 @@ pub struct Granted {
 
 /// A symbolic link (RFC 1813 section 3.3.5).
 #[derive(Debug, Drop)]
-pub struct LinkText {
-    /// Its attributes.
+pub struct ReadLinkOk {
+    /// The link's attributes.
     pub link: Option<Attr>,
-    /// Its text.
     pub text: Bytes,
 }
 
 /// Bytes read (RFC 1813 section 3.3.6). Their count is the data's length.
 #[derive(Debug, Drop)]
-pub struct ReadData {
+pub struct ReadOk {
     /// The file's attributes.
     pub file: Option<Attr>,
     /// Whether the file ends with them.
     pub eof: bool,
-    /// The bytes.
     pub data: Bytes,
 }
 
 /// Bytes written (RFC 1813 section 3.3.7).
 #[derive(Clone, Copy, Debug, PartialEq, Eq)]
-pub struct Written {
+pub struct WriteOk {
     /// The file before and after.
     pub file: WccData,
     /// How many were written.
@@ -88,10 +82,9 @@ pub struct Written {
 
 /// A new object, or the one that had the name (RFC 1813 sections 3.3.8 to 3.3.10).
 #[derive(Clone, Copy, Debug, PartialEq, Eq)]
-pub struct Created {
-    /// The object's handle.
+pub struct CreateOk {
     pub handle: Handle,
-    /// Its attributes.
+    /// The object's attributes.
     pub object: Option<Attr>,
     /// The directory before and after.
     pub directory: WccData,
@@ -99,7 +92,7 @@ pub struct Created {
 
 /// Both directories of a RENAME (RFC 1813 section 3.3.14).
 #[derive(Clone, Copy, Debug, PartialEq, Eq)]
-pub struct Renamed {
+pub struct RenameResults {
     /// The one that had the name, before and after.
     pub from: WccData,
     /// The one that gets it, before and after.
@@ -108,7 +101,7 @@ pub struct Renamed {
 
 /// The file and the directory of a LINK (RFC 1813 section 3.3.15).
 #[derive(Clone, Copy, Debug, PartialEq, Eq)]
-pub struct Linked {
+pub struct LinkResults {
     /// The file's attributes.
     pub file: Option<Attr>,
     /// The directory before and after.
@@ -118,9 +111,7 @@ pub struct Linked {
 /// An entry of a listing (`entry3`, RFC 1813 section 3.3.16).
 #[derive(Debug, Drop)]
 pub struct ListedEntry {
-    /// The node's number.
     pub fileid: u64,
-    /// The name.
     pub name: Bytes,
     /// The cookie behind which a next page begins.
     pub cookie: u64,
@@ -129,11 +120,8 @@ pub struct ListedEntry {
 /// An entry of a listing with attributes (`entryplus3`, RFC 1813 section 3.3.17).
 #[derive(Debug, Drop)]
 pub struct ListedEntryPlus {
-    /// The entry.
     pub entry: ListedEntry,
-    /// The node's attributes.
     pub attributes: Option<Attr>,
-    /// The node's handle.
     pub handle: Handle,
 }
 
@@ -215,10 +203,9 @@ impl ListedEntriesPlus {
 
 /// A page of a listing (RFC 1813 section 3.3.16). Its cookie verifier is zero.
 #[derive(Debug, Drop)]
-pub struct Page {
+pub struct ReadDirOk {
     /// The directory's attributes.
     pub directory: Option<Attr>,
-    /// The entries.
     pub entries: ListedEntries,
     /// Whether the listing ends with them.
     pub eof: bool,
@@ -226,10 +213,9 @@ pub struct Page {
 
 /// A page of a listing with attributes (RFC 1813 section 3.3.17). Its cookie verifier is zero.
 #[derive(Debug, Drop)]
-pub struct PagePlus {
+pub struct ReadDirPlusOk {
     /// The directory's attributes.
     pub directory: Option<Attr>,
-    /// The entries.
     pub entries: ListedEntriesPlus,
     /// Whether the listing ends with them.
     pub eof: bool,
@@ -237,7 +223,7 @@ pub struct PagePlus {
 
 /// How full the file system is (RFC 1813 section 3.3.18).
 #[derive(Clone, Copy, Debug, PartialEq, Eq)]
-pub struct FsStat {
+pub struct FsStatOk {
     /// The root's attributes.
     pub root: Option<Attr>,
     /// The file system's size in bytes.
@@ -253,58 +239,58 @@ pub struct FsStat {
     /// How many the caller can still make.
     pub available_files: u64,
     /// For how many seconds the file system isn't expected to change.
-    pub unchanged_seconds: u32,
+    pub invariant_seconds: u32,
 }
 
 /// What the file system can do (RFC 1813 section 3.3.19).
 #[derive(Clone, Copy, Debug, PartialEq, Eq)]
-pub struct FsInfo {
+pub struct FsInfoOk {
     /// The root's attributes.
     pub root: Option<Attr>,
     /// The most bytes of a READ.
-    pub read_most: u32,
+    pub read_max: u32,
     /// The bytes of a READ that suit best.
     pub read_preferred: u32,
     /// A READ's bytes are best a multiple of this.
     pub read_multiple: u32,
     /// The most bytes of a WRITE.
-    pub write_most: u32,
+    pub write_max: u32,
     /// The bytes of a WRITE that suit best.
     pub write_preferred: u32,
     /// A WRITE's bytes are best a multiple of this.
     pub write_multiple: u32,
     /// The bytes of a READDIR that suit best.
-    pub listing_preferred: u32,
+    pub directory_preferred: u32,
     /// The most bytes of a file.
-    pub file_most: u64,
+    pub max_file_size: u64,
     /// How exact times are kept.
-    pub time_step: Moment,
+    pub time_delta: Moment,
     /// What it can do, a bit for each: hard links 1, symbolic links 2, the same limits everywhere 8, set times 16.
     pub properties: u32,
 }
 
 /// The limits on names and links (RFC 1813 section 3.3.20).
 #[derive(Clone, Copy, Debug, PartialEq, Eq)]
-pub struct PathConf {
+pub struct PathConfOk {
     /// The object's attributes.
     pub object: Option<Attr>,
     /// The most links of a file.
-    pub links_most: u32,
+    pub link_max: u32,
     /// The most bytes of a name.
-    pub name_most: u32,
+    pub name_max: u32,
     /// Whether a longer name is refused, and not cut.
-    pub refuses_long_names: bool,
+    pub no_truncation: bool,
     /// Whether only user 0 gives a file another owner.
     pub chown_restricted: bool,
     /// Whether names that differ in case alone are one.
-    pub ignores_case: bool,
+    pub case_insensitive: bool,
     /// Whether a name keeps its case.
-    pub keeps_case: bool,
+    pub case_preserving: bool,
 }
 
 /// What was written is stable (RFC 1813 section 3.3.21).
 #[derive(Clone, Copy, Debug, PartialEq, Eq)]
-pub struct Committed {
+pub struct CommitOk {
     /// The file before and after.
     pub file: WccData,
     /// The write verifier.
@@ -322,21 +308,21 @@ pub enum Answer {
     /// 2: the object before and after.
     SetAttr(Result<WccData, Refused<WccData>>),
     /// 3: what was found; else the directory's attributes.
-    Lookup(Result<Found, Refused<Option<Attr>>>),
+    Lookup(Result<LookupOk, Refused<Option<Attr>>>),
     /// 4: the rights; else the object's attributes.
-    Access(Result<Granted, Refused<Option<Attr>>>),
+    Access(Result<AccessOk, Refused<Option<Attr>>>),
     /// 5: the text; else the object's attributes.
-    ReadLink(Result<LinkText, Refused<Option<Attr>>>),
+    ReadLink(Result<ReadLinkOk, Refused<Option<Attr>>>),
     /// 6: the bytes; else the object's attributes.
-    Read(Result<ReadData, Refused<Option<Attr>>>),
+    Read(Result<ReadOk, Refused<Option<Attr>>>),
     /// 7: what was written; else the object before and after.
-    Write(Result<Written, Refused<WccData>>),
+    Write(Result<WriteOk, Refused<WccData>>),
     /// 8: the file; else the directory before and after.
-    Create(Result<Created, Refused<WccData>>),
+    Create(Result<CreateOk, Refused<WccData>>),
     /// 9: the new directory; else the directory before and after.
-    Mkdir(Result<Created, Refused<WccData>>),
+    Mkdir(Result<CreateOk, Refused<WccData>>),
     /// 10: the link; else the directory before and after.
-    Symlink(Result<Created, Refused<WccData>>),
+    Symlink(Result<CreateOk, Refused<WccData>>),
     /// 11: this server makes none.
     Mknod(Refused<WccData>),
     /// 12: the directory before and after.
@@ -344,19 +330,19 @@ pub enum Answer {
     /// 13: the directory before and after.
     Rmdir(Result<WccData, Refused<WccData>>),
     /// 14: both directories before and after.
-    Rename(Result<Renamed, Refused<Renamed>>),
+    Rename(Result<RenameResults, Refused<RenameResults>>),
     /// 15: the file, and the directory before and after.
-    Link(Result<Linked, Refused<Linked>>),
+    Link(Result<LinkResults, Refused<LinkResults>>),
     /// 16: a page; else the directory's attributes.
-    ReadDir(Result<Page, Refused<Option<Attr>>>),
+    ReadDir(Result<ReadDirOk, Refused<Option<Attr>>>),
     /// 17: a page; else the directory's attributes.
-    ReadDirPlus(Result<PagePlus, Refused<Option<Attr>>>),
+    ReadDirPlus(Result<ReadDirPlusOk, Refused<Option<Attr>>>),
     /// 18: the numbers; else the object's attributes.
-    FsStat(Result<FsStat, Refused<Option<Attr>>>),
+    FsStat(Result<FsStatOk, Refused<Option<Attr>>>),
     /// 19: the numbers; else the object's attributes.
-    FsInfo(Result<FsInfo, Refused<Option<Attr>>>),
+    FsInfo(Result<FsInfoOk, Refused<Option<Attr>>>),
     /// 20: the numbers; else the object's attributes.
-    PathConf(Result<PathConf, Refused<Option<Attr>>>),
+    PathConf(Result<PathConfOk, Refused<Option<Attr>>>),
     /// 21: the file; else the object before and after.
-    Commit(Result<Committed, Refused<WccData>>),
+    Commit(Result<CommitOk, Refused<WccData>>),
 }

@@ -1,3 +1,5 @@
+//! Bytes of a call or an answer.
+
 ghost use Rattle.std.specs.Prelude.{◌≡◌};
 
 use std::marker::Model;

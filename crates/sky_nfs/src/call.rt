@@ -1,3 +1,5 @@
+//! The calls and their arguments.
+
 ghost use Rattle.std.specs.Prelude.{◌≡◌};
 ghost use Rattle.sky_nfs.specs.Calls.{is_change};
 
@@ -20,11 +22,8 @@ pub enum SetTime {
 pub struct SetAttr {
     /// The access bits, of which the lowest 12 count.
     pub mode: Option<u32>,
-    /// The owner.
     pub uid: Option<u32>,
-    /// The owner's group.
     pub gid: Option<u32>,
-    /// The size in bytes.
     pub size: Option<u64>,
     /// When it was last read.
     pub atime: SetTime,
@@ -34,8 +33,7 @@ pub struct SetAttr {
 
 /// A name in a directory (`diropargs3`, RFC 1813 section 2.6).
 #[derive(Debug, Drop)]
-pub struct At {
-    /// The directory.
+pub struct DirOpArgs {
     pub directory: RawHandle,
     /// The name as the caller sent it, of whatever length.
     pub name: Bytes,
@@ -43,7 +41,7 @@ pub struct At {
 
 /// How a file is made (`createhow3`, RFC 1813 section 3.3.8).
 #[derive(Clone, Copy, Debug, PartialEq, Eq)]
-pub enum How {
+pub enum CreateHow {
     /// With these attributes; a file that has the name is taken as it is.
     Unchecked(SetAttr),
     /// With these attributes, only where the name is free.
@@ -54,7 +52,7 @@ pub enum How {
 
 /// What is made by MKNOD (`mknoddata3`, RFC 1813 section 3.3.11).
 #[derive(Clone, Copy, Debug, PartialEq, Eq)]
-pub enum Special {
+pub enum MknodData {
     /// 1: a regular file, which MKNOD doesn't make.
     Regular,
     /// 2: a directory, which MKNOD doesn't make.
@@ -73,7 +71,7 @@ pub enum Special {
 
 /// How stable written data is to be (`stable_how`, RFC 1813 section 3.3.7).
 #[derive(Clone, Copy, Debug, PartialEq, Eq)]
-pub enum Stable {
+pub enum StableHow {
     /// 0: it may be lost until a COMMIT.
     Unstable,
     /// 1: the data is stable before the answer.
@@ -100,7 +98,7 @@ pub enum Call {
     },
     /// 3: the object that a name stands for.
     Lookup {
-        at: At,
+        at: DirOpArgs,
     },
     /// 4: which of these rights the caller has.
     Access {
@@ -122,47 +120,47 @@ pub enum Call {
         file: RawHandle,
         offset: u64,
         count: u32,
-        stable: Stable,
+        stable: StableHow,
         data: Bytes,
     },
     /// 8: makes a file.
     Create {
-        at: At,
-        how: How,
+        at: DirOpArgs,
+        how: CreateHow,
     },
     /// 9: makes a directory.
     Mkdir {
-        at: At,
+        at: DirOpArgs,
         attributes: SetAttr,
     },
     /// 10: makes a symbolic link.
     Symlink {
-        at: At,
+        at: DirOpArgs,
         attributes: SetAttr,
         text: Bytes,
     },
     /// 11: makes a special object.
     Mknod {
-        at: At,
-        what: Special,
+        at: DirOpArgs,
+        what: MknodData,
     },
     /// 12: removes a name of a file or a link.
     Remove {
-        at: At,
+        at: DirOpArgs,
     },
     /// 13: removes an empty directory.
     Rmdir {
-        at: At,
+        at: DirOpArgs,
     },
     /// 14: gives an object another name.
     Rename {
-        from: At,
-        to: At,
+        from: DirOpArgs,
+        to: DirOpArgs,
     },
     /// 15: gives a file one more name.
     Link {
         file: RawHandle,
-        at: At,
+        at: DirOpArgs,
     },
     /// 16: entries of a directory.
     ReadDir {
@@ -223,10 +221,7 @@ impl Call {
 /// A change of the tree: who called, when, and what.
 #[derive(Debug, Drop)]
 pub struct Change {
-    /// The caller.
     pub cred: Cred,
-    /// The moment of the call.
     pub moment: Moment,
-    /// The call.
     pub call: Call,
 }

@@ -1,5 +1,7 @@
+//! File handles.
+
 ghost use Rattle.std.specs.Prelude.{◌≡◌, ◌≤◌, length};
-ghost use Rattle.sky_nfs.specs.Handles.{handle_bytes};
+ghost use Rattle.sky_base.specs.Limits.{max_handle_bytes};
 
 use std::marker::Model;
 
@@ -16,30 +18,31 @@ pub struct Handle {
 /// list of its bytes.
 #[derive(Debug, Drop)]
 pub struct RawHandle {
-    bytes: [u8; 64],
+    bytes: [u8; RawHandle::MAX],
     count: usize,
 }
 
 impl Model for RawHandle {
     ghost use Rattle.std.specs.Prelude.{List, ℕ, ◌≤◌, take};
+    ghost use Rattle.sky_base.specs.Limits.{max_handle_bytes};
 
     ghost Value = { List ℕ };
 
     ghost view = { λ h. take h.count h.bytes };
 
-    ghost invariant = { λ h. h.count ≤ 64 };
+    ghost invariant = { λ h. h.count ≤ max_handle_bytes };
 }
 
 impl RawHandle {
     /// The most bytes that a handle has.
-    pub const MOST: usize = 64;
+    pub const MAX: usize = 64;
 
     /// A handle of these bytes.
     pub fn new(from: &[u8]) -> RawHandle
-        requires { length from.now ≤ 64 }
+        requires { length from.now ≤ max_handle_bytes }
         ensures { result ≡ from.now }
     {
-        let mut bytes = [0; 64];
+        let mut bytes = [0; RawHandle::MAX];
         bytes[..from.len()].copy_from_slice(from);
         RawHandle {
             bytes,
@@ -50,7 +53,7 @@ impl RawHandle {
     /// Its bytes, to read.
     pub fn as_bytes(&self) -> &[u8]
         ensures same { result.now ≡ self.now }
-        ensures most { length self.now ≤ 64 }
+        ensures most { length self.now ≤ max_handle_bytes }
     {
         &self.bytes[..self.count]
     }

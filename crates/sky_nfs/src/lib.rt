@@ -10,16 +10,16 @@ mod laws;
 mod status;
 
 pub use answer::{
-    Answer, Committed, Created, Found, FsInfo, FsStat, Granted, LinkText, Linked, ListedEntries,
-    ListedEntriesPlus, ListedEntry, ListedEntryPlus, Page, PagePlus, PathConf, ReadData, Refused,
-    Renamed, WccAttr, WccData, Written,
+    AccessOk, Answer, CommitOk, CreateOk, FsInfoOk, FsStatOk, LinkResults, ListedEntries,
+    ListedEntriesPlus, ListedEntry, ListedEntryPlus, LookupOk, PathConfOk, ReadDirOk,
+    ReadDirPlusOk, ReadLinkOk, ReadOk, Refused, RenameResults, WccAttr, WccData, WriteOk,
 };
 pub use bytes::Bytes;
-pub use call::{At, Call, Change, How, SetAttr, SetTime, Special, Stable};
+pub use call::{Call, Change, CreateHow, DirOpArgs, MknodData, SetAttr, SetTime, StableHow};
 pub use handle::{Handle, RawHandle};
 pub use laws::{
-    epochs_leave_the_tree, handles_are_read_back, links_are_counted,
-    refusals_and_readings_leave_the_tree, valid_trees_stay_valid,
+    epochs_are_told_by_write_verifiers, handles_are_read_back, limit_is_as_defined,
+    links_are_counted, refusals_and_readings_leave_the_tree, valid_trees_stay_valid,
 };
 pub use status::NfsStatus;
 

@@ -1,3 +1,5 @@
+//! The statuses with which calls are refused.
+
 ghost use Rattle.std.specs.Prelude.{◌≡◌};
 ghost use Rattle.sky_nfs.specs.NfsStatus.{number_of};
 

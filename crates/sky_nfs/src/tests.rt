@@ -1,3 +1,5 @@
+//! Tests of calls, answers and statuses.
+
 use super::*;
 use sky_base::{Cred, Device, Gids, Moment};
 use std::test::Fail;
@@ -19,7 +21,7 @@ fn handle() -> RawHandle {
 fn nine_procedures_change_the_tree(rt: HostRuntime) {
     let alloc = rt.alloc();
     let bytes = || Bytes::new(Vec::new(alloc));
-    let at = || At {
+    let at = || DirOpArgs {
         directory: handle(),
         name: Bytes::new(Vec::new(alloc)),
     };
@@ -33,12 +35,12 @@ fn nine_procedures_change_the_tree(rt: HostRuntime) {
             file: handle(),
             offset: 0,
             count: 0,
-            stable: Stable::Unstable,
+            stable: StableHow::Unstable,
             data: bytes(),
         },
         Call::Create {
             at: at(),
-            how: How::Exclusive([0; 8]),
+            how: CreateHow::Exclusive([0; 8]),
         },
         Call::Mkdir {
             at: at(),
@@ -68,7 +70,7 @@ fn nine_procedures_change_the_tree(rt: HostRuntime) {
 #[test]
 fn the_other_thirteen_do_not(rt: HostRuntime) {
     let alloc = rt.alloc();
-    let at = || At {
+    let at = || DirOpArgs {
         directory: handle(),
         name: Bytes::new(Vec::new(alloc)),
     };
@@ -88,7 +90,7 @@ fn the_other_thirteen_do_not(rt: HostRuntime) {
         },
         Call::Mknod {
             at: at(),
-            what: Special::Block(NOTHING, Device { major: 1, minor: 2 }),
+            what: MknodData::Block(NOTHING, Device { major: 1, minor: 2 }),
         },
         Call::ReadDir {
             directory: handle(),
@@ -141,8 +143,32 @@ fn lists_are_given_back(rt: HostRuntime) -> Result<(), Fail> {
 
 #[test]
 fn numbers_are_those_of_the_rfc(rt: HostRuntime) {
-    assert_eq!(rt; NfsStatus::Stale.number(), 70);
-    assert_eq!(rt; NfsStatus::BadHandle.number(), 10001);
+    for (status, number) in [
+        (NfsStatus::Perm, 1),
+        (NfsStatus::NoEnt, 2),
+        (NfsStatus::Io, 5),
+        (NfsStatus::Acces, 13),
+        (NfsStatus::Exist, 17),
+        (NfsStatus::NotDir, 20),
+        (NfsStatus::IsDir, 21),
+        (NfsStatus::Inval, 22),
+        (NfsStatus::FBig, 27),
+        (NfsStatus::NoSpc, 28),
+        (NfsStatus::MLink, 31),
+        (NfsStatus::NameTooLong, 63),
+        (NfsStatus::NotEmpty, 66),
+        (NfsStatus::Stale, 70),
+        (NfsStatus::BadHandle, 10001),
+        (NfsStatus::NotSync, 10002),
+        (NfsStatus::BadCookie, 10003),
+        (NfsStatus::NotSupp, 10004),
+        (NfsStatus::TooSmall, 10005),
+        (NfsStatus::ServerFault, 10006),
+        (NfsStatus::BadType, 10007),
+        (NfsStatus::Jukebox, 10008),
+    ] {
+        assert_eq!(rt; status.number(), number, "of {status:?}");
+    }
 }
 
 #[test]

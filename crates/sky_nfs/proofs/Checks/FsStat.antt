@@ -1,4 +1,5 @@
 -- FSSTAT, FSINFO, PATHCONF and NULL.
+use Rattle.sky_nfs.specs.Handles.{volume_in, fileid_in, handle_bytes}
 use Rattle.std.proofs.Common.{◌≡◌, List, [], ◌∷◌, Some, Ok, refl, true, false}
 use Rattle.sky_nfs.specs.declared.answer.Answer.{Answer}
 use Rattle.sky_nfs.specs.declared.call.Call.{Call}
@@ -17,11 +18,11 @@ cases =
     (owner, Call.PathConf gone, Stale) ∷ []
 
 refused : refusals sample cases ≡ statuses cases
-unfolding refusal_of rules_of cases
+unfolding refusal_of rules_of cases volume_in fileid_in
 refused = refl
 
 null : procedure sample 1 owner Call.Null now ≡ record { tree = sample; answer = Answer.Null }
-unfolding procedure tree_after refusal_of rules_of changed_tree answer_of
+unfolding procedure tree_after refusal_of rules_of changed_tree answer_of volume_in fileid_in
 null = refl
 
 -- the sample has 7 nodes
@@ -37,10 +38,10 @@ fsstat :
         total_files = 1048576;
         free_files = 1048569;
         available_files = 1048569;
-        unchanged_seconds = 0;
+        invariant_seconds = 0;
       }));
     }
-unfolding procedure tree_after refusal_of rules_of changed_tree answer_of
+unfolding procedure tree_after refusal_of rules_of changed_tree answer_of volume_in fileid_in
 fsstat = refl
 
 fsinfo :
@@ -49,19 +50,19 @@ fsinfo :
       tree = sample;
       answer = Answer.FsInfo (Ok (record {
         root = Some (attributes_at sample 1);
-        read_most = 65536;
+        read_max = 65536;
         read_preferred = 65536;
         read_multiple = 512;
-        write_most = 65536;
+        write_max = 65536;
         write_preferred = 65536;
         write_multiple = 512;
-        listing_preferred = 65536;
-        file_most = 1073741824;
-        time_step = record { seconds = 0; nanos = 1 };
+        directory_preferred = 65536;
+        max_file_size = 1073741824;
+        time_delta = record { seconds = 0; nanos = 1 };
         properties = 27;
       }));
     }
-unfolding procedure tree_after refusal_of rules_of changed_tree answer_of
+unfolding procedure tree_after refusal_of rules_of changed_tree answer_of volume_in fileid_in
 fsinfo = refl
 
 pathconf :
@@ -70,13 +71,13 @@ pathconf :
       tree = sample;
       answer = Answer.PathConf (Ok (record {
         object = Some (attributes_at sample 1);
-        links_most = 32000;
-        name_most = 255;
-        refuses_long_names = true;
+        link_max = 32000;
+        name_max = 255;
+        no_truncation = true;
         chown_restricted = true;
-        ignores_case = false;
-        keeps_case = true;
+        case_insensitive = false;
+        case_preserving = true;
       }));
     }
-unfolding procedure tree_after refusal_of rules_of changed_tree answer_of
+unfolding procedure tree_after refusal_of rules_of changed_tree answer_of volume_in fileid_in
 pathconf = refl

@@ -5,14 +5,14 @@ use Rattle.std.specs.Prelude.{ℕ, List, [], ◌∷◌, map, Option, Some, None,
 use Rattle.sky_base.specs.declared.cred.Cred.{Cred}
 use Rattle.sky_base.specs.declared.moment.Moment.{Moment}
 use Rattle.sky_base.specs.Listing.{Entry}
-use Rattle.sky_nfs.specs.declared.call.At.{At}
+use Rattle.sky_nfs.specs.declared.call.DirOpArgs.{DirOpArgs}
 use Rattle.sky_nfs.specs.declared.call.Call.{Call}
 use Rattle.sky_nfs.specs.declared.call.SetAttr.{SetAttr}
 use Rattle.sky_nfs.specs.declared.call.SetTime.TheVariants.{Keep, Client}
 use Rattle.sky_nfs.specs.declared.status.NfsStatus.{NfsStatus}
 use Rattle.sky_nfs.specs.Handles.{handle_bytes}
 use Rattle.sky_nfs.specs.Procedure.{refusal_of}
-use Rattle.sky_nfs.specs.Tree.{Tree, Node, Content, File, Folder, Link}
+use Rattle.sky_nfs.specs.Tree.{Tree, Node, Content, File, Directory, Link}
 
 -- a moment, in seconds
 abbrev pub second : ℕ → Moment
@@ -32,10 +32,10 @@ gone = fh 99
 abbrev pub foreign : List ℕ
 foreign = handle_bytes 2 1
 
-abbrev pub at : ℕ → List ℕ → At
+abbrev pub at : ℕ → List ℕ → DirOpArgs
 at dir name = record { directory = fh dir; name = name }
 
-abbrev pub at_handle : List ℕ → List ℕ → At
+abbrev pub at_handle : List ℕ → List ℕ → DirOpArgs
 at_handle directory name = record { directory = directory; name = name }
 
 -- callers: user 0, the owner of most nodes, two of its group, and a stranger
@@ -97,12 +97,12 @@ node mode nlink content = record {
 abbrev pub entry : ℕ → List ℕ → ℕ → Entry
 entry cookie name fileid = record { cookie = cookie; name = name; fileid = fileid }
 
-abbrev pub folder : ℕ → List Entry → ℕ → Content
-folder parent entries next = Folder parent (record { entries = entries; next_cookie = next })
+abbrev pub directory : ℕ → List Entry → ℕ → Content
+directory parent entries next = Directory parent (record { entries = entries; next_cookie = next })
 
 -- the directory /
 abbrev pub top : Node
-top = record (node 0o777 4 (folder 1 (entry 3 (codes "f") 2 ∷ entry 4 (codes "d") 3 ∷ entry 5 (codes "l") 4 ∷ entry 6 (codes "g") 2 ∷ entry 7 (codes "e") 6 ∷ []) 8)) { uid = 0; gid = 0 }
+top = record (node 0o777 4 (directory 1 (entry 3 (codes "f") 2 ∷ entry 4 (codes "d") 3 ∷ entry 5 (codes "l") 4 ∷ entry 6 (codes "g") 2 ∷ entry 7 (codes "e") 6 ∷ []) 8)) { uid = 0; gid = 0 }
 
 -- the verifier under which /d/x was made
 abbrev pub kept_verifier : List ℕ
@@ -114,10 +114,10 @@ sample = record {
   nodes =
       (1, top) ∷
       (2, node 0o640 2 (File (codes "hello"))) ∷
-      (3, node 0o750 3 (folder 1 (entry 3 (codes "s") 5 ∷ entry 4 (codes "x") 7 ∷ []) 5)) ∷
+      (3, node 0o750 3 (directory 1 (entry 3 (codes "s") 5 ∷ entry 4 (codes "x") 7 ∷ []) 5)) ∷
       (4, node 0o777 1 (Link (codes "f"))) ∷
-      (5, node 0o755 2 (folder 3 [] 3)) ∷
-      (6, node 0o777 2 (folder 1 [] 3)) ∷
+      (5, node 0o755 2 (directory 3 [] 3)) ∷
+      (6, node 0o777 2 (directory 1 [] 3)) ∷
       (7, record (node 0o644 1 (File [])) { verifier = Some kept_verifier }) ∷ [];
   next_fileid = 8;
 }

@@ -1,4 +1,5 @@
 -- SETATTR.
+use Rattle.sky_nfs.specs.Handles.{volume_in, fileid_in, handle_bytes}
 use Rattle.std.proofs.Common.{◌≡◌, List, [], ◌∷◌, Some, None, refl}
 use Rattle.std.specs.Prelude.{codes, ◌^◌, ◌+◌}
 use Rattle.sky_nfs.specs.declared.call.Call.{Call}
@@ -35,51 +36,51 @@ cases =
     (member, Call.SetAttr (fh 2) (record set_none { mtime = Server }) None, Acces) ∷ []
 
 refused : refusals sample cases ≡ statuses cases
-unfolding refusal_of rules_of
+unfolding refusal_of rules_of volume_in fileid_in
 refused = refl
 
 -- user 0 may give any owner; an owner its own groups; fields that keep their values ask no right, and nothing set neither
 admin_may : refusal_of sample admin (Call.SetAttr (fh 2) (record (set_uid 77) { gid = Some 78; mode = Some 0 }) None) ≡ None
-unfolding refusal_of rules_of
+unfolding refusal_of rules_of volume_in fileid_in
 admin_may = refl
 
 owner_may : refusal_of sample owner (Call.SetAttr (fh 2) (record (set_gid 21) { uid = Some 10; mode = Some 0 }) (Some (second 5))) ≡ None
-unfolding refusal_of rules_of
+unfolding refusal_of rules_of volume_in fileid_in
 owner_may = refl
 
 same_owners : refusal_of sample stranger (Call.SetAttr (fh 2) (record (set_gid 20) { uid = Some 10 }) None) ≡ None
-unfolding refusal_of rules_of
+unfolding refusal_of rules_of volume_in fileid_in
 same_owners = refl
 
 nothing_set : refusal_of sample stranger (Call.SetAttr (fh 2) set_none None) ≡ None
-unfolding refusal_of rules_of
+unfolding refusal_of rules_of volume_in fileid_in
 nothing_set = refl
 
 -- a file of 2^30 bytes may be asked for
 largest : refusal_of sample owner (Call.SetAttr (fh 2) (set_size (2 ^ 30)) None) ≡ None
-unfolding refusal_of rules_of
+unfolding refusal_of rules_of volume_in fileid_in
 largest = refl
 
 -- who may write a directory may set its times to the server's
 server_times : refusal_of sample stranger (Call.SetAttr (fh 6) (record set_none { atime = Server; mtime = Server }) None) ≡ None
-unfolding refusal_of rules_of
+unfolding refusal_of rules_of volume_in fileid_in
 server_times = refl
 
 -- a cut sets mtime and ctime; of the mode the lowest 12 bits count
 cut :
     tree_after sample owner (Call.SetAttr (fh 2) (record (set_size 2) { mode = Some 0o170644 }) None) now
     ≡ put sample 2 (record (node 0o644 2 (File (codes "he"))) { mtime = now; ctime = now })
-unfolding tree_after refusal_of rules_of changed_tree
+unfolding tree_after refusal_of rules_of changed_tree volume_in fileid_in
 cut = refl
 
 -- a growth adds zeros, and an mtime that is set stands
 grown :
     tree_after sample owner (Call.SetAttr (fh 2) (record (set_size 7) { atime = Server; mtime = Client (second 3) }) None) now
     ≡ put sample 2 (record (node 0o640 2 (File (104 ∷ 101 ∷ 108 ∷ 108 ∷ 111 ∷ 0 ∷ 0 ∷ []))) { atime = now; mtime = second 3; ctime = now })
-unfolding tree_after refusal_of rules_of changed_tree
+unfolding tree_after refusal_of rules_of changed_tree volume_in fileid_in
 grown = refl
 
 -- where nothing is set ctime becomes now
 stamped : tree_after sample stranger (Call.SetAttr (fh 2) set_none None) now ≡ put sample 2 (record (node 0o640 2 (File (codes "hello"))) { ctime = now })
-unfolding tree_after refusal_of rules_of changed_tree
+unfolding tree_after refusal_of rules_of changed_tree volume_in fileid_in
 stamped = refl

@@ -4,16 +4,16 @@ use Rattle.std.specs.Str.{bytes_eq}
 use Rattle.sky_base.specs.declared.cred.Cred.{Cred}
 use Rattle.sky_base.specs.declared.cred.Want.TheVariants.{Write, Execute}
 use Rattle.sky_base.specs.declared.moment.Moment.{Moment}
-use Rattle.sky_nfs.specs.declared.answer.Created.{Created}
-use Rattle.sky_nfs.specs.declared.call.At.{At}
-use Rattle.sky_nfs.specs.declared.call.How.{How}
-use Rattle.sky_nfs.specs.declared.call.How.TheVariants.{Unchecked, Guarded, Exclusive}
+use Rattle.sky_nfs.specs.declared.answer.CreateOk.{CreateOk}
+use Rattle.sky_nfs.specs.declared.call.DirOpArgs.{DirOpArgs}
+use Rattle.sky_nfs.specs.declared.call.CreateHow.{CreateHow}
+use Rattle.sky_nfs.specs.declared.call.CreateHow.TheVariants.{Unchecked, Guarded, Exclusive}
 use Rattle.sky_nfs.specs.declared.call.SetAttr.{SetAttr}
 use Rattle.sky_nfs.specs.declared.call.SetTime.TheVariants.{Keep}
 use Rattle.sky_nfs.specs.declared.status.NfsStatus.TheVariants.{Exist, Acces, Inval, Perm, FBig}
 use Rattle.sky_nfs.specs.Tree.{Tree, Node, File, the_node, is_file, named}
 use Rattle.sky_nfs.specs.Handles.{fileid_in, handle_bytes}
-use Rattle.sky_nfs.specs.Rules.{Rules, folder_rules, name_rules, is_dots, lacks, lacks_unless_owner, has_bad_time, is_foreign_owner, is_too_big, new_room_rules}
+use Rattle.sky_nfs.specs.Rules.{Rules, directory_rules, name_rules, is_dots, lacks, lacks_unless_owner, has_bad_time, may_not_set_owners, is_too_big, new_room_rules}
 use Rattle.sky_nfs.specs.Changes.{edit, stamp, resized, with_size, new_node, add_node}
 use Rattle.sky_nfs.specs.Results.{post_attributes, wcc}
 
@@ -22,13 +22,13 @@ abbrev pub nothing_set : SetAttr
 nothing_set = record { mode = None; uid = None; gid = None; size = None; atime = Keep; mtime = Keep }
 
 -- the attributes of a new file: an exclusive CREATE gives none
-abbrev pub set_by : How → SetAttr
+abbrev pub set_by : CreateHow → SetAttr
 set_by (Unchecked set) = set
 set_by (Guarded set) = set
 set_by (Exclusive verifier) = nothing_set
 
 -- the verifier that a new file keeps
-abbrev pub verifier_by : How → Option (List ℕ)
+abbrev pub verifier_by : CreateHow → Option (List ℕ)
 verifier_by (Unchecked set) = None
 verifier_by (Guarded set) = None
 verifier_by (Exclusive verifier) = Some verifier
@@ -39,7 +39,7 @@ keeps None verifier = false
 keeps (Some kept) verifier = bytes_eq kept verifier
 
 -- where the name stands for a node
-abbrev pub taken_rules : Tree → Cred → ℕ → How → Rules
+abbrev pub taken_rules : Tree → Cred → ℕ → CreateHow → Rules
 taken_rules t cred fileid (Guarded set) = (true, Exist) ∷ []
 taken_rules t cred fileid (Exclusive verifier) =
     (not (is_file (the_node t fileid)), Exist) ∷
@@ -54,15 +54,15 @@ abbrev pub free_rules : Tree → Cred → ℕ → List ℕ → SetAttr → Rules
 free_rules t cred dir name set =
     (lacks t cred dir Write, Acces) ∷
     (has_bad_time set, Inval) ∷
-    (is_foreign_owner cred cred.uid cred.gid set, Perm) ∷
+    (may_not_set_owners cred cred.uid cred.gid set, Perm) ∷
     (is_too_big set.size, FBig) ∷
     new_room_rules t dir name
 
 -- the refusals of CREATE
-abbrev pub create_rules : Tree → Cred → At → How → Rules
+abbrev pub create_rules : Tree → Cred → DirOpArgs → CreateHow → Rules
 create_rules t cred at how =
     let dir = fileid_in at.directory in
-    folder_rules t at.directory ++
+    directory_rules t at.directory ++
     name_rules at.name ++
     (is_dots at.name, Exist) ∷
     (lacks t cred dir Execute, Acces) ∷
@@ -78,18 +78,18 @@ taken_tree t fileid None now = t
 taken_tree t fileid (Some size) now = edit t fileid (λ node. stamp now (with_size (Some size) now node))
 
 -- the size that an unchecked CREATE sets
-abbrev pub unchecked_size : How → Option ℕ
+abbrev pub unchecked_size : CreateHow → Option ℕ
 unchecked_size (Unchecked set) = set.size
 unchecked_size (Guarded set) = None
 unchecked_size (Exclusive verifier) = None
 
 -- a new file. Its mode is 0644 where none is set
-abbrev pub new_file : Cred → Moment → How → Node
+abbrev pub new_file : Cred → Moment → CreateHow → Node
 new_file cred now how =
     record (new_node cred now 0o644 (set_by how) (File (resized [] (unwrap_or (set_by how).size 0)))) { verifier = verifier_by how }
 
 -- the tree after CREATE
-abbrev pub create_tree : Tree → Cred → At → How → Moment → Tree
+abbrev pub create_tree : Tree → Cred → DirOpArgs → CreateHow → Moment → Tree
 create_tree t cred at how now = go (fileid_in at.directory) (named t (fileid_in at.directory) at.name)
   where
     go : ℕ → Option ℕ → Tree
@@ -97,7 +97,7 @@ create_tree t cred at how now = go (fileid_in at.directory) (named t (fileid_in 
     go dir None = add_node t now dir at.name (new_file cred now how)
 
 -- the object that has a name after the call
-abbrev pub created : Tree → Tree → At → Created
+abbrev pub created : Tree → Tree → DirOpArgs → CreateOk
 created before after at =
     let fileid = unwrap_or (named after (fileid_in at.directory) at.name) 0 in
     record {

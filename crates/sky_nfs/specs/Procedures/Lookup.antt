@@ -2,12 +2,12 @@
 use Rattle.std.specs.Prelude.{ℕ, cond, List, [], ◌∷◌, ◌++◌, Option, Some, is_none, unwrap_or}
 use Rattle.sky_base.specs.declared.cred.Cred.{Cred}
 use Rattle.sky_base.specs.declared.cred.Want.TheVariants.{Execute}
-use Rattle.sky_nfs.specs.declared.answer.Found.{Found}
-use Rattle.sky_nfs.specs.declared.call.At.{At}
+use Rattle.sky_nfs.specs.declared.answer.LookupOk.{LookupOk}
+use Rattle.sky_nfs.specs.declared.call.DirOpArgs.{DirOpArgs}
 use Rattle.sky_nfs.specs.declared.status.NfsStatus.TheVariants.{Acces, NoEnt}
 use Rattle.sky_nfs.specs.Tree.{Tree, the_node, parent_of, named}
 use Rattle.sky_nfs.specs.Handles.{fileid_in, handle_bytes}
-use Rattle.sky_nfs.specs.Rules.{Rules, folder_rules, name_rules, lacks, is_dot, is_dot_dot}
+use Rattle.sky_nfs.specs.Rules.{Rules, directory_rules, name_rules, lacks, is_dot, is_dot_dot}
 use Rattle.sky_nfs.specs.Results.{post_attributes}
 
 -- the fileid that a name stands for in a directory: `.` is the directory, `..` its parent
@@ -15,16 +15,16 @@ abbrev pub looked_up : Tree → ℕ → List ℕ → Option ℕ
 looked_up t dir name = cond (is_dot name) (Some dir) (cond (is_dot_dot name) (Some (parent_of (the_node t dir))) (named t dir name))
 
 -- the refusals of LOOKUP
-abbrev pub lookup_rules : Tree → Cred → At → Rules
+abbrev pub lookup_rules : Tree → Cred → DirOpArgs → Rules
 lookup_rules t cred at =
     let dir = fileid_in at.directory in
-    folder_rules t at.directory ++
+    directory_rules t at.directory ++
     name_rules at.name ++
     (lacks t cred dir Execute, Acces) ∷
     (is_none (looked_up t dir at.name), NoEnt) ∷ []
 
 -- the results of LOOKUP
-abbrev pub found : Tree → At → Found
+abbrev pub found : Tree → DirOpArgs → LookupOk
 found t at =
     let fileid = unwrap_or (looked_up t (fileid_in at.directory) at.name) 0 in
     record {

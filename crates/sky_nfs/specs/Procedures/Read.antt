@@ -2,8 +2,8 @@
 use Rattle.std.specs.Prelude.{ℕ, ◌+◌, not, nat_le, min, List, [], ◌∷◌, ◌++◌, length, take, drop}
 use Rattle.sky_base.specs.declared.cred.Cred.{Cred}
 use Rattle.sky_base.specs.declared.cred.Want.TheVariants.{Read}
-use Rattle.sky_base.specs.Limits.{transfer_most}
-use Rattle.sky_nfs.specs.declared.answer.ReadData.{ReadData}
+use Rattle.sky_base.specs.Limits.{max_transfer}
+use Rattle.sky_nfs.specs.declared.answer.ReadOk.{ReadOk}
 use Rattle.sky_nfs.specs.declared.status.NfsStatus.TheVariants.{Inval, Acces}
 use Rattle.sky_nfs.specs.Tree.{Tree, the_node, is_file, bytes_of}
 use Rattle.sky_nfs.specs.Handles.{fileid_in}
@@ -20,10 +20,10 @@ read_rules t cred file =
 
 -- the bytes from an offset on, as many as the caller asks for and one READ moves
 abbrev pub bytes_at : List ℕ → ℕ → ℕ → List ℕ
-bytes_at bytes offset count = take (min count transfer_most) (drop offset bytes)
+bytes_at bytes offset count = take (min count max_transfer) (drop offset bytes)
 
 -- the results of READ
-abbrev pub read_data : Tree → List ℕ → ℕ → ℕ → ReadData
+abbrev pub read_data : Tree → List ℕ → ℕ → ℕ → ReadOk
 read_data t file offset count =
     let bytes = bytes_of (the_node t (fileid_in file)) in
     let piece = bytes_at bytes offset count in

@@ -3,16 +3,16 @@ use Rattle.std.specs.Prelude.{ℕ, ◌+◌, ◌*◌, ◌/◌, Bool, not, cond, �
 use Rattle.std.specs.List.{list_all}
 use Rattle.sky_base.specs.declared.cred.Cred.{Cred}
 use Rattle.sky_base.specs.declared.cred.Want.TheVariants.{Read}
-use Rattle.sky_base.specs.Limits.{transfer_most}
+use Rattle.sky_base.specs.Limits.{max_transfer}
 use Rattle.sky_base.specs.Listing.{Entry}
 use Rattle.sky_nfs.specs.declared.answer.ListedEntry.{ListedEntry}
 use Rattle.sky_nfs.specs.declared.answer.ListedEntryPlus.{ListedEntryPlus}
-use Rattle.sky_nfs.specs.declared.answer.Page.{Page}
-use Rattle.sky_nfs.specs.declared.answer.PagePlus.{PagePlus}
+use Rattle.sky_nfs.specs.declared.answer.ReadDirOk.{ReadDirOk}
+use Rattle.sky_nfs.specs.declared.answer.ReadDirPlusOk.{ReadDirPlusOk}
 use Rattle.sky_nfs.specs.declared.status.NfsStatus.TheVariants.{Acces, BadCookie, TooSmall}
 use Rattle.sky_nfs.specs.Tree.{Tree, the_node, listing_of, parent_of}
 use Rattle.sky_nfs.specs.Handles.{fileid_in, handle_bytes}
-use Rattle.sky_nfs.specs.Rules.{Rules, folder_rules, lacks, dot, dot_dot}
+use Rattle.sky_nfs.specs.Rules.{Rules, directory_rules, lacks, dot, dot_dot}
 use Rattle.sky_nfs.specs.Results.{post_attributes}
 
 -- all entries that a listing shows: `.` with cookie 1, `..` with cookie 2, and those of the directory
@@ -44,17 +44,17 @@ abbrev pub entry_plus_size : Entry → ℕ
 entry_plus_size e = entry_size e + 112
 
 -- the most bytes of a page
-abbrev pub page_most : ℕ → ℕ
-page_most count = min count transfer_most
+abbrev pub max_page_bytes : ℕ → ℕ
+max_page_bytes count = min count max_transfer
 
 -- whether a page's results stay within the bytes that the caller allows
 abbrev pub fits : ℕ → List Entry → Bool
-fits count page = nat_le (empty_page_size + sum_by entry_size page) (page_most count)
+fits count page = nat_le (empty_page_size + sum_by entry_size page) (max_page_bytes count)
 
 -- the same of READDIRPLUS. Its names and cookies stay within dircount besides, unless it is one entry
 abbrev pub fits_plus : ℕ → ℕ → List Entry → Bool
 fits_plus dircount maxcount page =
-    nat_le (empty_page_size + sum_by entry_plus_size page) (page_most maxcount) &&
+    nat_le (empty_page_size + sum_by entry_plus_size page) (max_page_bytes maxcount) &&
     (nat_le (length page) 1 || nat_le (sum_by entry_size page) dircount)
 
 -- a page, continued with entries as long as it fits
@@ -74,7 +74,7 @@ is_too_small fit left = not (fit []) || not (length left == 0) && length (longes
 abbrev pub page_rules : Tree → Cred → List ℕ → ℕ → List ℕ → (List Entry → Bool) → Rules
 page_rules t cred directory cookie verifier fit =
     let dir = fileid_in directory in
-    folder_rules t directory ++
+    directory_rules t directory ++
     (lacks t cred dir Read, Acces) ∷
     (is_bad_cookie cookie verifier, BadCookie) ∷
     (is_too_small fit (left_behind t dir cookie), TooSmall) ∷ []
@@ -101,14 +101,14 @@ listed_plus t e = record {
 }
 
 -- the results of READDIR
-abbrev pub page : Tree → List ℕ → ℕ → ℕ → Page
+abbrev pub page : Tree → List ℕ → ℕ → ℕ → ReadDirOk
 page t directory cookie count =
     let left = left_behind t (fileid_in directory) cookie in
     let entries = longest (fits count) [] left in
     record { directory = post_attributes t directory; entries = map listed entries; eof = length entries == length left }
 
 -- the results of READDIRPLUS
-abbrev pub page_plus : Tree → List ℕ → ℕ → ℕ → ℕ → PagePlus
+abbrev pub page_plus : Tree → List ℕ → ℕ → ℕ → ℕ → ReadDirPlusOk
 page_plus t directory cookie dircount maxcount =
     let left = left_behind t (fileid_in directory) cookie in
     let entries = longest (fits_plus dircount maxcount) [] left in

@@ -3,11 +3,11 @@ use Rattle.std.specs.Prelude.{ℕ, Bool, not, ◌==◌, List, [], ◌∷◌, ◌
 use Rattle.sky_base.specs.declared.cred.Cred.{Cred}
 use Rattle.sky_base.specs.declared.cred.Want.TheVariants.{Write, Execute}
 use Rattle.sky_base.specs.declared.moment.Moment.{Moment}
-use Rattle.sky_nfs.specs.declared.call.At.{At}
+use Rattle.sky_nfs.specs.declared.call.DirOpArgs.{DirOpArgs}
 use Rattle.sky_nfs.specs.declared.status.NfsStatus.TheVariants.{Exist, Acces, Inval, NoEnt, IsDir, NotDir, NotEmpty}
-use Rattle.sky_nfs.specs.Tree.{Tree, Node, the_node, is_folder, listing_of, named}
+use Rattle.sky_nfs.specs.Tree.{Tree, Node, the_node, is_directory, listing_of, named}
 use Rattle.sky_nfs.specs.Handles.{fileid_in}
-use Rattle.sky_nfs.specs.Rules.{Rules, folder_rules, name_rules, is_dot, is_dot_dot, is_dots, lacks}
+use Rattle.sky_nfs.specs.Rules.{Rules, directory_rules, name_rules, is_dot, is_dot_dot, is_dots, lacks}
 use Rattle.sky_nfs.specs.Changes.{remove_name}
 
 -- the node that a name stands for
@@ -26,27 +26,27 @@ old_name_rules t cred dir name =
     (lacks t cred dir Write, Acces) ∷ []
 
 -- the refusals of REMOVE
-abbrev pub remove_rules : Tree → Cred → At → Rules
+abbrev pub remove_rules : Tree → Cred → DirOpArgs → Rules
 remove_rules t cred at =
     let dir = fileid_in at.directory in
-    folder_rules t at.directory ++
+    directory_rules t at.directory ++
     name_rules at.name ++
     (is_dots at.name, IsDir) ∷
     old_name_rules t cred dir at.name ++
-    (is_folder (named_node t dir at.name), IsDir) ∷ []
+    (is_directory (named_node t dir at.name), IsDir) ∷ []
 
 -- the refusals of RMDIR
-abbrev pub rmdir_rules : Tree → Cred → At → Rules
+abbrev pub rmdir_rules : Tree → Cred → DirOpArgs → Rules
 rmdir_rules t cred at =
     let dir = fileid_in at.directory in
-    folder_rules t at.directory ++
+    directory_rules t at.directory ++
     name_rules at.name ++
     (is_dot at.name, Inval) ∷
     (is_dot_dot at.name, Exist) ∷
     old_name_rules t cred dir at.name ++
-    (not (is_folder (named_node t dir at.name)), NotDir) ∷
+    (not (is_directory (named_node t dir at.name)), NotDir) ∷
     (has_entries (named_node t dir at.name), NotEmpty) ∷ []
 
 -- the tree after REMOVE or RMDIR
-abbrev pub removed_tree : Tree → At → Moment → Tree
+abbrev pub removed_tree : Tree → DirOpArgs → Moment → Tree
 removed_tree t at now = remove_name t now (fileid_in at.directory) at.name

@@ -4,12 +4,12 @@ use Rattle.sky_base.specs.declared.cred.Cred.{Cred}
 use Rattle.sky_base.specs.declared.cred.Want.TheVariants.{Write, Execute}
 use Rattle.sky_base.specs.declared.moment.Moment.{Moment}
 use Rattle.sky_base.specs.Listing.{Listing, without_entry}
-use Rattle.sky_nfs.specs.declared.answer.Renamed.{Renamed}
-use Rattle.sky_nfs.specs.declared.call.At.{At}
+use Rattle.sky_nfs.specs.declared.answer.RenameResults.{RenameResults}
+use Rattle.sky_nfs.specs.declared.call.DirOpArgs.{DirOpArgs}
 use Rattle.sky_nfs.specs.declared.status.NfsStatus.TheVariants.{NotDir, Inval, Acces, NoEnt, Exist}
-use Rattle.sky_nfs.specs.Tree.{Tree, Node, the_node, is_folder, listing_of, named, is_at_or_below}
+use Rattle.sky_nfs.specs.Tree.{Tree, Node, the_node, is_directory, listing_of, named, is_at_or_below}
 use Rattle.sky_nfs.specs.Handles.{fileid_in}
-use Rattle.sky_nfs.specs.Rules.{Rules, handle_rules, name_rules, is_no_folder, is_dots, lacks, entry_room_rules}
+use Rattle.sky_nfs.specs.Rules.{Rules, handle_rules, name_rules, is_no_directory, is_dots, lacks, entry_room_rules}
 use Rattle.sky_nfs.specs.Changes.{edit, stamp, add_link, drop_link, enter, leave, with_parent, remove_name}
 use Rattle.sky_nfs.specs.Results.{wcc}
 use Rattle.sky_nfs.specs.Procedures.Remove.{has_entries}
@@ -19,13 +19,13 @@ abbrev pub is_same : Option ℕ → Option ℕ → Bool
 is_same (Some a) (Some b) = a == b
 is_same _ _ = false
 
--- a node of which a target is in the way: just one of the two is a directory, or the target is one with entries
+-- a target that is in the way of a node: a directory before another node, or the other way round, or a directory with entries
 abbrev pub target_rules : Tree → Node → Option ℕ → Rules
 target_rules t source None = []
 target_rules t source (Some fileid) =
     let target = the_node t fileid in
-    (is_folder source && not (is_folder target) || not (is_folder source) && is_folder target, Exist) ∷
-    (is_folder target && has_entries target, Exist) ∷ []
+    (is_directory source && not (is_directory target) || not (is_directory source) && is_directory target, Exist) ∷
+    (is_directory target && has_entries target, Exist) ∷ []
 
 -- what stays in the new directory when the target, and in the same directory the old name, are gone
 abbrev pub staying : Tree → ℕ → List ℕ → ℕ → List ℕ → Listing
@@ -37,20 +37,20 @@ staying t from from_name to to_name =
 abbrev pub move_rules : Tree → ℕ → List ℕ → ℕ → List ℕ → ℕ → Rules
 move_rules t from from_name to to_name fileid =
     let source = the_node t fileid in
-    (is_folder source && is_at_or_below t to fileid, Inval) ∷
+    (is_directory source && is_at_or_below t to fileid, Inval) ∷
     target_rules t source (named t to to_name) ++
     entry_room_rules (staying t from from_name to to_name) to_name
 
 -- the refusals of RENAME
-abbrev pub rename_rules : Tree → Cred → At → At → Rules
+abbrev pub rename_rules : Tree → Cred → DirOpArgs → DirOpArgs → Rules
 rename_rules t cred at to_at =
     let from = fileid_in at.directory in
     let to = fileid_in to_at.directory in
     let source = named t from at.name in
     handle_rules t at.directory ++
     handle_rules t to_at.directory ++
-    (is_no_folder t from, NotDir) ∷
-    (is_no_folder t to, NotDir) ∷
+    (is_no_directory t from, NotDir) ∷
+    (is_no_directory t to, NotDir) ∷
     name_rules at.name ++
     name_rules to_at.name ++
     (is_dots at.name || is_dots to_at.name, Inval) ∷
@@ -62,8 +62,8 @@ rename_rules t cred at to_at =
     cond (is_same source (named t to to_at.name)) [] (move_rules t from at.name to to_at.name (unwrap_or source 0))
 
 -- a directory that moves has another parent, and counts there
-abbrev pub move_folder : Tree → ℕ → ℕ → ℕ → Tree
-move_folder t from to fileid =
+abbrev pub move_directory : Tree → ℕ → ℕ → ℕ → Tree
+move_directory t from to fileid =
     edit (edit (edit t fileid (λ n. record n { content = with_parent to n.content })) from drop_link) to add_link
 
 -- the target goes, the old entry goes, the new one is added, and the node's ctime is now
@@ -72,10 +72,10 @@ move_name t now from from_name to to_name fileid =
     let cleared = remove_name t now to to_name in
     let moved = edit (edit cleared from (λ d. leave now from_name d)) to (λ d. enter now to_name fileid d) in
     let stamped = edit moved fileid (λ n. stamp now n) in
-    cond (is_folder (the_node t fileid)) (move_folder stamped from to fileid) stamped
+    cond (is_directory (the_node t fileid)) (move_directory stamped from to fileid) stamped
 
 -- nothing is done where both names stand for one node
-abbrev pub rename_tree : Tree → At → At → Moment → Tree
+abbrev pub rename_tree : Tree → DirOpArgs → DirOpArgs → Moment → Tree
 rename_tree t at to_at now =
     let from = fileid_in at.directory in
     let to = fileid_in to_at.directory in
@@ -83,5 +83,5 @@ rename_tree t at to_at now =
     cond (is_same source (named t to to_at.name)) t (move_name t now from at.name to to_at.name (unwrap_or source 0))
 
 -- the results of RENAME, and what goes with its refusals
-abbrev pub renamed : Tree → Tree → At → At → Renamed
+abbrev pub renamed : Tree → Tree → DirOpArgs → DirOpArgs → RenameResults
 renamed before after at to_at = record { from = wcc before after at.directory; to = wcc before after to_at.directory }

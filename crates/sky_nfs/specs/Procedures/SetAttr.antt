@@ -7,15 +7,15 @@ use Rattle.sky_nfs.specs.declared.call.SetAttr.{SetAttr}
 use Rattle.sky_nfs.specs.declared.call.SetTime.{SetTime}
 use Rattle.sky_nfs.specs.declared.call.SetTime.TheVariants.{Keep, Server, Client}
 use Rattle.sky_nfs.specs.declared.status.NfsStatus.TheVariants.{NotSync, Inval, Perm, IsDir, Acces, FBig}
-use Rattle.sky_nfs.specs.Tree.{Tree, Node, the_node, is_folder, is_link}
+use Rattle.sky_nfs.specs.Tree.{Tree, Node, the_node, is_directory, is_link}
 use Rattle.sky_nfs.specs.Handles.{fileid_in}
-use Rattle.sky_nfs.specs.Rules.{Rules, handle_rules, lacks, lacks_unless_owner, is_stranger, has_bad_time, is_foreign_owner, is_too_big}
+use Rattle.sky_nfs.specs.Rules.{Rules, handle_rules, lacks, lacks_unless_owner, is_stranger, has_bad_time, may_not_set_owners, is_too_big}
 use Rattle.sky_nfs.specs.Changes.{edit, stamp, with_attributes, with_size}
 
 -- whether a guard is given, and isn't the object's ctime
-abbrev pub is_out_of_step : Option Moment → Moment → Bool
-is_out_of_step None ctime = false
-is_out_of_step (Some guard) ctime = not (guard.seconds == ctime.seconds && guard.nanos == ctime.nanos)
+abbrev pub guard_differs : Option Moment → Moment → Bool
+guard_differs None ctime = false
+guard_differs (Some guard) ctime = not (guard.seconds == ctime.seconds && guard.nanos == ctime.nanos)
 
 -- whether a time is set to one of the caller's
 abbrev pub is_client_time : SetTime → Bool
@@ -35,11 +35,11 @@ setattr_rules t cred object set guard =
     let fileid = fileid_in object in
     let node = the_node t fileid in
     handle_rules t object ++
-    (is_out_of_step guard node.ctime, NotSync) ∷
+    (guard_differs guard node.ctime, NotSync) ∷
     (has_bad_time set, Inval) ∷
     (is_some set.mode && is_stranger t cred fileid, Perm) ∷
-    (is_foreign_owner cred node.uid node.gid set, Perm) ∷
-    (is_some set.size && is_folder node, IsDir) ∷
+    (may_not_set_owners cred node.uid node.gid set, Perm) ∷
+    (is_some set.size && is_directory node, IsDir) ∷
     (is_some set.size && is_link node, Inval) ∷
     (is_some set.size && lacks_unless_owner t cred fileid Write, Acces) ∷
     (is_too_big set.size, FBig) ∷

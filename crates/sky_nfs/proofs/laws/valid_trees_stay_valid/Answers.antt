@@ -1,4 +1,6 @@
 use Rattle.std.proofs.Common.{refl}
+use Rattle.std.proofs.lemmas.Bool.{le-leb}
+use Rattle.sky_base.specs.Limits.{max_volume}
 use Rattle.sky_nfs.specs.Laws.{EachCallKeepsValid}
 use Rattle.sky_nfs.specs.declared.call.Call.TheVariants.{Null, GetAttr, SetAttr, Lookup, Access, ReadLink, Read, Write, Create, Mkdir, Symlink, Mknod, Remove, Rmdir, Rename, Link, ReadDir, ReadDirPlus, FsStat, FsInfo, PathConf, Commit}
 use Rattle.sky_nfs.proofs.CreateLemmas.{create_kept, mkdir_kept, symlink_kept}
@@ -32,5 +34,27 @@ each_kept (FsInfo root) = reading_kept (FsInfo root) refl
 each_kept (PathConf object) = reading_kept (PathConf object) refl
 each_kept (Commit file offset count) = reading_kept (Commit file offset count) refl
 
-pub returns : goal.returns
-returns c = each_kept
+pub returns-clause-begins : goal.returns-clause-begins
+returns-clause-begins c = λ volume within. record {
+  fileids = refl;
+  root_is_directory = refl;
+  root_is_top = refl;
+  entries_name_nodes = refl;
+  none_names_root = refl;
+  nodes_have_names = refl;
+  directories_have_one = refl;
+  directories_stand_in_parents = refl;
+  ways_lead_up = refl;
+  names_differ = refl;
+  cookies = refl;
+  links = refl;
+  modes = refl;
+  contents_within = refl;
+  links_within = refl;
+  nodes_within = refl;
+  fileid_within = refl;
+  volume_within = le-leb volume max_volume within;
+}
+
+pub returns-clause-stays : goal.returns-clause-stays
+returns-clause-stays c = each_kept
