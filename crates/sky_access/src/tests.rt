@@ -1,3 +1,5 @@
+//! Tests of the rules of access.
+
 use super::*;
 use sky_base::{Device, Gids, Kind, Moment};
 

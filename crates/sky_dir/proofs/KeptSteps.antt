@@ -1,5 +1,5 @@
 -- What the calls do to the two maps.
-use Rattle.std.proofs.Common.{◌≡◌, ℕ, ◌+◌, ◌<◌, ◌≤◌, ◌^◌, List, [], ◌∷◌, ◌++◌, map, Option, Some, None, Vec, append_assoc, refl, ap, sym, ◌∙◌, subst, arith, true, false, cond}
+use Rattle.std.proofs.Common.{◌≡◌, ℕ, ◌+◌, ◌<◌, ◌≤◌, List, [], ◌∷◌, ◌++◌, map, Option, Some, None, Vec, append_assoc, refl, ap, sym, ◌∙◌, subst, arith, true, false, cond}
 use Rattle.std.specs.Prelude.{find, option_map, is_some}
 use Rattle.std.specs.BTreeMap.{BTreeMap, insert_entry, is_at}
 use Rattle.std.specs.Cmp.Lexicographic.{slice_cmp}
@@ -9,6 +9,7 @@ use Rattle.std.specs.Str.{bytes_eq}
 use Rattle.std.specs.declared.alloc.Global.{Global}
 use Rattle.std.proofs.lemmas.List.{map-append}
 use Rattle.std.proofs.lemmas.Option.{same_Some}
+use Rattle.sky_base.specs.Limits.{max_cookie}
 use Rattle.sky_base.specs.Listing.{Entry, without_name}
 use Rattle.sky_dir.specs.declared.indexed.Item.{Item}
 use Rattle.sky_dir.specs.Items.{item_entry}
@@ -53,7 +54,7 @@ pub none_from_index : (items : List (ℕ × Item)) (index : BTreeMap (Vec ℕ Gl
 none_from_index items index next kept name h = none_of_map (λ (e : Entry). e.cookie) (find (has_name name) (map item_entry items)) (sym (h ∙ kept.indexed name))
 
 -- one entry more, which goes last
-pub kept_with : (items : List (ℕ × Item)) (index : BTreeMap (Vec ℕ Global) ℕ) (next : ℕ) → IsKept items index next → (v : Item) → next < 2 ^ 62 → find (has_name v.name) (map item_entry items) ≡ None
+pub kept_with : (items : List (ℕ × Item)) (index : BTreeMap (Vec ℕ Global) ℕ) (next : ℕ) → IsKept items index next → (v : Item) → next < max_cookie → find (has_name v.name) (map item_entry items) ≡ None
     → (more : List (ℕ × Item)) → more ≡ insert_entry nat_cmp items next v → (other : BTreeMap (Vec ℕ Global) ℕ) → ((q : List ℕ) → cookie_at other q ≡ update bytes_eq (cookie_at index) v.name (Some next) q)
     → IsKept more other (next + 1) × (map item_entry more ≡ map item_entry items ++ item_entry (next, v) ∷ [])
 kept_with items index next kept v room new more inserted other updated =
@@ -112,7 +113,7 @@ indexed_more es index other least have e low new updated =
       indexed = indexes_same _ _ _ updated (indexes_push (cookie_at index) es e have.indexed none);
     }
 
--- the last of the rows that are left goes to the front of the map
+-- the last of the rows that are left goes first in the map
 pub items_more : (n : ℕ) (all : List Entry) (rows : List (ℕ × List ℕ × ℕ)) (row : ℕ × List ℕ × ℕ) (items more : List (ℕ × Item)) → AscendsBelow n all
     → map entry_of (rows ++ row ∷ []) ++ map item_entry items ≡ all → more ≡ insert_entry nat_cmp items row.0 (record { name = row.1; fileid = row.2 })
     → map entry_of rows ++ map item_entry more ≡ all

@@ -1,7 +1,10 @@
-pub mod Rows
+pub mod Commands
 pub mod Items
-pub mod Pages
-pub mod Orderly
 pub mod Kept
 pub mod Kinds
-pub mod Commands
+pub mod Orderly
+pub mod Pages
+pub mod Rows
+-- what a listing is, and its limits
+pub use Rattle.sky_base.specs.Limits
+pub use Rattle.sky_base.specs.Listing

@@ -1,7 +1,7 @@
 -- Entries as the code hands them about, and the directory that they make.
 use Rattle.std.specs.Prelude.{ℕ, ◌+◌, suc, Bool, cond, ◌||◌, nat_lt, nat_le, List, [], ◌∷◌, map, Option, Some, None, option_map}
 use Rattle.std.specs.Str.{bytes_eq}
-use Rattle.sky_base.specs.Limits.{directory_most, cookie_most}
+use Rattle.sky_base.specs.Limits.{max_directory_bytes, max_cookie}
 use Rattle.sky_base.specs.Listing.{Entry, Listing, size_of_listing, size_of_name}
 
 -- a row is an entry's cookie, name and fileid
@@ -23,4 +23,4 @@ place_in name (row ∷ rows) = cond (bytes_eq row.1 name) (Some 0) (option_map s
 
 -- whether an entry more, of this name, would make the directory too large, or no cookie is left for it
 abbrev pub is_crowded : Listing → List ℕ → Bool
-is_crowded l name = nat_lt directory_most (size_of_listing l + size_of_name name) || nat_le cookie_most l.next_cookie
+is_crowded l name = nat_lt max_directory_bytes (size_of_listing l + size_of_name name) || nat_le max_cookie l.next_cookie

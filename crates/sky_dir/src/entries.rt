@@ -1,4 +1,7 @@
+//! The entries of a directory.
+
 ghost use Rattle.std.specs.Prelude.{◌≡◌, ◌^◌, ◌<◌, ◌≤◌, ◌↔◌, [], Err, IfNone, IfOk, IfSome, IsTrue, None, OnErr, OnOk, filter, length, nat_lt, sum_by};
+ghost use Rattle.sky_base.specs.Limits.{max_cookie};
 ghost use Rattle.sky_base.specs.Listing.{fileid_at, new_listing, size_of_listing, size_of_name, with_entry, without_entry};
 ghost use Rattle.sky_dir.specs.Rows.{is_crowded, listing_of_rows};
 
@@ -13,9 +16,10 @@ use std::marker::Model;
 /// The entries of a directory, in the order in which they were added, and the cookie of the one that is
 /// added next. Contracts see it as a `Listing`.
 ///
-/// Where the cookies ascend below the next one and the names differ, as the calls leave it, the entries are
-/// kept by two maps, one from cookies and one from names. So each name is held twice, `find`, `add` and
-/// `drop_name` take time in the logarithm of the number of entries, and so does the first entry of a `page`.
+/// Where cookies and names are as the calls leave them, the entries are kept by two maps, one from cookies
+/// and one from names: each cookie is below all behind it and below the next one, and no name stands twice.
+/// So each name is held twice. `find`, `add` and `drop_name` take time in the logarithm of the number of
+/// entries, and so does the first entry of a `page`.
 ///
 /// A list that `of` is given in another state is kept as it came: `find`, `drop_name` and `page` go over it,
 /// and `drop_name` moves what stands behind the entry. `add` puts the entry at its end.
@@ -41,7 +45,7 @@ impl Model for Entries {
 }
 
 /// What each entry has beside its name, in bytes.
-const ENTRY: u64 = 18;
+const ENTRY_OVERHEAD: u64 = 18;
 
 /// The bytes of the rows together, where there are fewer than 2^64.
 fn size_of(rows: &[(u64, Name, u64)]) -> Option<u64>
@@ -50,17 +54,17 @@ fn size_of(rows: &[(u64, Name, u64)]) -> Option<u64>
 {
     let mut size: u64 = 0;
     for row in rows {
-        size = size.checked_add(ENTRY + row.1.as_bytes().len() as u64)?;
+        size = size.checked_add(ENTRY_OVERHEAD + row.1.as_bytes().len() as u64)?;
     }
     Some(size)
 }
 
 impl Entries {
     /// The most bytes that a directory has.
-    pub const MOST: u64 = 1 << 20;
+    pub const MAX: u64 = 1 << 20;
 
     /// The next cookie of a directory that has given out its last one.
-    pub const LAST: u64 = 1 << 62;
+    pub const MAX_COOKIE: u64 = 1 << 62;
 
     /// An empty directory, whose next cookie is 3. The cookies 1 and 2 are those of `.` and `..`.
     pub fn new(alloc: Global) -> Entries
@@ -78,7 +82,7 @@ impl Entries {
     /// `NoMemory` where there is no memory for it, or where the sizes of the entries pass 2^64. The list is
     /// given up then.
     pub fn of(alloc: Global, list: Vec<(u64, Name, u64)>, next: u64) -> Result<Entries, NoMemory>
-        requires { next ≤ 2 ^ 62 }
+        requires { next ≤ max_cookie }
         ensures { IfOk result (λ entries. entries ≡ listing_of_rows list.items next) }
     {
         let Some(size) = size_of(list.as_slice()) else {
@@ -116,13 +120,13 @@ impl Entries {
         self.kind.next_cookie()
     }
 
-    /// Whether an entry of this name would make the directory larger than `MOST`, or whether no cookie is left.
+    /// Whether an entry of this name would make the directory larger than `MAX`, or whether no cookie is left.
     pub fn is_crowded(&self, name: &[u8]) -> bool
         ensures { result ≡ is_crowded self.now name.now }
     {
-        let more = ENTRY + name.len() as u64;
-        let fits = more <= Entries::MOST && self.size <= Entries::MOST - more;
-        !fits || self.kind.next_cookie() >= Entries::LAST
+        let more = ENTRY_OVERHEAD + name.len() as u64;
+        let fits = more <= Entries::MAX && self.size <= Entries::MAX - more;
+        !fits || self.kind.next_cookie() >= Entries::MAX_COOKIE
     }
 
     /// The fileid that a name stands for: that of the first entry of the name.
@@ -134,7 +138,7 @@ impl Entries {
 
     /// Adds an entry of a name that isn't there, behind all others. It takes the next cookie, which is answered.
     ///
-    /// `Crowded` where the directory would have more than `MOST` bytes or the next cookie is `LAST`, and
+    /// `Crowded` where the directory would have more than `MAX` bytes or the next cookie is `MAX_COOKIE`, and
     /// `Memory` where there is no memory. All is as it was then.
     pub fn add(&mut self, name: Name, fileid: u64) -> Result<u64, DirFault>
         requires { fileid_at self.old name ≡ None }
@@ -146,7 +150,7 @@ impl Entries {
         if self.is_crowded(name.as_bytes()) {
             return Err(DirFault::Crowded);
         }
-        let size = self.size + ENTRY + name.as_bytes().len() as u64;
+        let size = self.size + ENTRY_OVERHEAD + name.as_bytes().len() as u64;
         let cookie = self.kind.add(name, fileid)?;
         self.size = size;
         Ok(cookie)
@@ -160,7 +164,7 @@ impl Entries {
     {
         match self.kind.drop_name(name) {
             Some(fileid) => {
-                self.size -= ENTRY + name.len() as u64;
+                self.size -= ENTRY_OVERHEAD + name.len() as u64;
                 Some(fileid)
             }
             None => None,

@@ -1,3 +1,5 @@
+//! Why an entry wasn't added.
+
 use sky_base::NoMemory;
 
 /// Why an entry wasn't added.

@@ -1,4 +1,7 @@
+//! A directory as the calls leave it, kept by two maps.
+
 ghost use Rattle.std.specs.Prelude.{◌≡◌, ◌+◌, ◌^◌, ◌<◌, ◌≤◌, IfNone, IfOk, IfSome, OnErr, OnOk, None, filter, length, map, nat_lt};
+ghost use Rattle.sky_base.specs.Limits.{max_cookie};
 ghost use Rattle.sky_base.specs.Listing.{new_listing, fileid_at, with_entry, without_entry};
 ghost use Rattle.sky_dir.specs.Items.{item_entry};
 ghost use Rattle.sky_dir.specs.Kept.{IsIndexed};
@@ -19,8 +22,8 @@ pub struct Item {
     pub fileid: u64,
 }
 
-/// A directory whose cookies ascend below the next one and whose names differ, as the calls leave it:
-/// a map from cookies to entries, and a map from names to cookies.
+/// A directory with cookies and names as the calls leave them: each cookie is below all behind it and below
+/// the next one, and no name stands twice. It is a map from cookies to entries, and one from names to cookies.
 #[derive(Drop)]
 pub struct Indexed {
     items: BTreeMap<u64, Item>,
@@ -87,7 +90,7 @@ impl Indexed {
         next: u64,
     ) -> Result<Indexed, NoMemory>
         requires indexed { IsIndexed (map entry_of rows.items) index next }
-        requires bound { next ≤ 2 ^ 62 }
+        requires bound { next ≤ max_cookie }
         ensures { IfOk result (λ d. d ≡ listing_of_rows rows.items next) }
     {
         let items = items_of(alloc, rows)?;
@@ -138,7 +141,7 @@ impl Indexed {
     /// Adds an entry, and answers its cookie. `NoMemory` leaves all as it was.
     pub fn add(&mut self, name: Name, fileid: u64) -> Result<u64, NoMemory>
         requires absent { fileid_at self.old name ≡ None }
-        requires room { self.old.next_cookie < 2 ^ 62 }
+        requires room { self.old.next_cookie < max_cookie }
         ensures cookie { IfOk result (λ cookie. cookie ≡ self.old.next_cookie) }
         ensures added { OnOk result (self.new ≡ with_entry self.old name fileid) }
         ensures err { OnErr result (self.new ≡ self.old) }

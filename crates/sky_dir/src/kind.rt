@@ -1,4 +1,7 @@
-ghost use Rattle.std.specs.Prelude.{◌≡◌, ◌+◌, ◌^◌, ◌<◌, ◌≤◌, IfOk, IsTrue, OnErr, OnOk, None, filter, length, map, nat_lt};
+//! The two ways in which a directory is kept.
+
+ghost use Rattle.std.specs.Prelude.{◌≡◌, ◌^◌, ◌<◌, ◌≤◌, IfOk, IsTrue, OnErr, OnOk, None, filter, length, map, nat_lt};
+ghost use Rattle.sky_base.specs.Limits.{max_cookie};
 ghost use Rattle.sky_base.specs.Listing.{fileid_at, with_entry, without_entry};
 ghost use Rattle.sky_dir.specs.Kinds.{is_by_maps, listing_in};
 ghost use Rattle.sky_dir.specs.Orderly.{IsOrderly};
@@ -13,7 +16,7 @@ use std::alloc::Global;
 /// The two ways in which a directory is kept.
 #[derive(Drop)]
 pub enum Kind {
-    /// By maps, where the cookies ascend below the next one and the names differ.
+    /// By maps, where cookies and names are as the calls leave them.
     Indexed(Indexed),
     /// As it came, in all other cases.
     Plain(Plain),
@@ -22,7 +25,7 @@ pub enum Kind {
 impl Kind {
     /// The directory with these rows and that next cookie, by maps where they allow it.
     pub fn of(alloc: Global, rows: Vec<(u64, Name, u64)>, next: u64) -> Result<Kind, NoMemory>
-        requires { next ≤ 2 ^ 62 }
+        requires { next ≤ max_cookie }
         ensures same { IfOk result (λ kind. listing_in kind ≡ listing_of_rows rows.items next) }
         ensures by_maps { IfOk result (λ kind. IsOrderly next (map entry_of rows.items) → IsTrue (is_by_maps kind)) }
     {
@@ -65,7 +68,7 @@ impl Kind {
     /// Adds an entry, and answers its cookie. `NoMemory` leaves all as it was.
     pub fn add(&mut self, name: Name, fileid: u64) -> Result<u64, NoMemory>
         requires absent { fileid_at (listing_in self.old) name ≡ None }
-        requires room { (listing_in self.old).next_cookie < 2 ^ 62 }
+        requires room { (listing_in self.old).next_cookie < max_cookie }
         ensures cookie { IfOk result (λ cookie. cookie ≡ (listing_in self.old).next_cookie) }
         ensures added { OnOk result (listing_in self.new ≡ with_entry (listing_in self.old) name fileid) }
         ensures err { OnErr result (listing_in self.new ≡ listing_in self.old) }

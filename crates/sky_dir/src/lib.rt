@@ -11,7 +11,7 @@ mod plain;
 
 pub use entries::Entries;
 pub use fault::DirFault;
-pub use laws::no_cookie_is_used_again;
+pub use laws::{limits_are_as_defined, no_cookie_is_used_again};
 pub use page::{Listed, PageIter};
 
 #[cfg(test)]

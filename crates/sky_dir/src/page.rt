@@ -1,3 +1,5 @@
+//! What a page of a directory shows.
+
 ghost use Rattle.std.specs.Prelude.{◌≡◌, ◌^◌, ◌<◌, map, filter, length, nat_lt, option_map};
 ghost use Rattle.std.specs.Iterator.{item_count, YieldsFirstBy};
 ghost use Rattle.sky_dir.specs.Items.{listed_of, item_entry};

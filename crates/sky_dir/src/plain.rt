@@ -1,4 +1,7 @@
+//! A directory as a bare list.
+
 ghost use Rattle.std.specs.Prelude.{◌≡◌, ◌+◌, ◌^◌, ◌<◌, ◌≤◌, IfOk, OnErr, OnOk, filter, length, nat_lt};
+ghost use Rattle.sky_base.specs.Limits.{max_cookie};
 ghost use Rattle.sky_base.specs.Listing.{fileid_at, with_entry, without_entry};
 ghost use Rattle.sky_dir.specs.Rows.{listing_of_rows, place_in};
 
@@ -14,7 +17,8 @@ pub struct Plain {
 }
 
 impl Model for Plain {
-    ghost use Rattle.std.specs.Prelude.{◌≤◌, ◌^◌};
+    ghost use Rattle.std.specs.Prelude.{◌≤◌};
+    ghost use Rattle.sky_base.specs.Limits.{max_cookie};
     ghost use Rattle.sky_base.specs.Listing.{Listing};
     ghost use Rattle.sky_dir.specs.Rows.{listing_of_rows};
 
@@ -22,7 +26,7 @@ impl Model for Plain {
 
     ghost view = { λ a. listing_of_rows a.rows.items a.next };
 
-    ghost invariant = { λ a. a.next ≤ 2 ^ 62 };
+    ghost invariant = { λ a. a.next ≤ max_cookie };
 }
 
 /// The place of the first row of a name.
@@ -40,7 +44,7 @@ fn place_of(rows: &[(u64, Name, u64)], name: &[u8]) -> Option<usize>
 impl Plain {
     /// The directory with these rows and that next cookie.
     pub fn of(rows: Vec<(u64, Name, u64)>, next: u64) -> Plain
-        requires { next ≤ 2 ^ 62 }
+        requires { next ≤ max_cookie }
         ensures { result ≡ listing_of_rows rows.items next }
     {
         Plain { rows, next }
@@ -72,7 +76,7 @@ impl Plain {
 
     /// Adds an entry, and answers its cookie. `NoMemory` leaves all as it was.
     pub fn add(&mut self, name: Name, fileid: u64) -> Result<u64, NoMemory>
-        requires { self.old.next_cookie < 2 ^ 62 }
+        requires { self.old.next_cookie < max_cookie }
         ensures cookie { IfOk result (λ cookie. cookie ≡ self.old.next_cookie) }
         ensures added { OnOk result (self.new ≡ with_entry self.old name fileid) }
         ensures err { OnErr result (self.new ≡ self.old) }

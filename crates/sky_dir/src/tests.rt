@@ -1,3 +1,5 @@
+//! Tests of directories.
+
 ghost use Rattle.std.specs.Prelude.{◌≡◌, IfOk, filter, map, nat_lt};
 
 use crate::{DirFault, Entries};
@@ -89,10 +91,10 @@ fn a_list_in_any_state_is_kept(rt: HostRuntime) -> Result<(), Fail> {
 #[test]
 fn the_last_cookie_is_given_once(rt: HostRuntime) -> Result<(), Fail> {
     let alloc = rt.alloc();
-    let mut entries = Entries::of(alloc, Vec::new(alloc), Entries::LAST - 1)?;
+    let mut entries = Entries::of(alloc, Vec::new(alloc), Entries::MAX_COOKIE - 1)?;
     assert_eq!(rt;
         add(&rt, alloc, &mut entries, b"a", 1)?,
-        Ok(Entries::LAST - 1)
+        Ok(Entries::MAX_COOKIE - 1)
     );
     assert_eq!(rt;
         add(&rt, alloc, &mut entries, b"b", 2)?,
@@ -118,7 +120,7 @@ fn the_size_goes_up_to_the_last_byte(rt: HostRuntime) -> Result<(), Fail> {
         list.push((3 + i, name, 2))?;
     }
     let mut entries = Entries::of(alloc, list, 5000)?;
-    assert_eq!(rt; entries.size(), Entries::MOST);
+    assert_eq!(rt; entries.size(), Entries::MAX);
     assert_eq!(rt;
         add(&rt, alloc, &mut entries, b"", 1)?,
         Err(DirFault::Crowded)
@@ -135,6 +137,6 @@ fn the_size_goes_up_to_the_last_byte(rt: HostRuntime) -> Result<(), Fail> {
         add(&rt, alloc, &mut entries, &long.as_slice()[1..], 1)?,
         Ok(5000)
     );
-    assert_eq!(rt; entries.size(), Entries::MOST);
+    assert_eq!(rt; entries.size(), Entries::MAX);
     Ok(())
 }

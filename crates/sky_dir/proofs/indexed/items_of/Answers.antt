@@ -1,4 +1,4 @@
--- the last row goes to the front of the map
+-- the last row goes first in the map
 use Rattle.std.proofs.Common.{◌≡◌, ◌++◌, ◌∷◌, [], ◌^◌, ℕ, List, map, ap, sym, ◌∙◌}
 use Rattle.sky_dir.specs.Items.{item_entry}
 use Rattle.sky_dir.specs.Rows.{entry_of}

@@ -1,8 +1,9 @@
 -- the entry goes last, and the index gets its cookie
-use Rattle.std.proofs.Common.{◌≡◌, ℕ, ◌+◌, ◌<◌, ◌^◌, List, map, Some, None, ap, ◌∙◌, arith}
+use Rattle.std.proofs.Common.{◌≡◌, ℕ, ◌+◌, ◌<◌, List, map, Some, None, ap, ◌∙◌, arith}
 use Rattle.std.specs.Prelude.{find}
 use Rattle.std.specs.Map.{update}
 use Rattle.std.specs.Str.{bytes_eq}
+use Rattle.sky_base.specs.Limits.{max_cookie}
 use Rattle.sky_base.specs.Listing.{Entry, Listing, fileid_at, with_entry}
 use Rattle.sky_dir.specs.Items.{item_entry}
 use Rattle.sky_dir.specs.Kept.{cookie_at}
@@ -30,7 +31,7 @@ pub invariant_of-self-2 : goal.invariant_of-self-2
 invariant_of-self-2 c =
     let a = c.self.inside in
     let v : Item = record { name = c.args.name; fileid = c.args.fileid } in
-    let room : a.next < 2 ^ 62 = omega (arith, ap (λ (l : Listing). l.next_cookie) c.self.view_is, c.requires.room) in
+    let room : a.next < max_cookie = omega (arith, ap (λ (l : Listing). l.next_cookie) c.self.view_is, c.requires.room) in
     let absent : find (has_name c.args.name) (map item_entry a.items.entries) ≡ None =
     none_of_map (λ (e : Entry). e.fileid) _ (ap (λ (l : Listing). fileid_at l c.args.name) c.self.view_is ∙ c.requires.absent) in
     let key : c.in_ok-key.key.items ≡ c.args.name = c.in_ok-key.ensures.items ∙ c.as_bytes.ensures.same in
@@ -41,7 +42,7 @@ pub returns-clause-added : goal.returns-clause-added
 returns-clause-added c =
     let a = c.self.inside in
     let v : Item = record { name = c.args.name; fileid = c.args.fileid } in
-    let room : a.next < 2 ^ 62 = omega (arith, ap (λ (l : Listing). l.next_cookie) c.self.view_is, c.requires.room) in
+    let room : a.next < max_cookie = omega (arith, ap (λ (l : Listing). l.next_cookie) c.self.view_is, c.requires.room) in
     let absent : find (has_name c.args.name) (map item_entry a.items.entries) ≡ None =
     none_of_map (λ (e : Entry). e.fileid) _ (ap (λ (l : Listing). fileid_at l c.args.name) c.self.view_is ∙ c.requires.absent) in
     let key : c.in_ok-key.key.items ≡ c.args.name = c.in_ok-key.ensures.items ∙ c.as_bytes.ensures.same in
