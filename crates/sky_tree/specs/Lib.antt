@@ -1,0 +1,4 @@
+pub mod Creating
+pub mod Setting
+pub mod Offered
+pub mod Linking

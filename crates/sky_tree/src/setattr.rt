@@ -1,0 +1,147 @@
+//! SETATTR, RFC 1813 section 3.3.2.
+
+ghost use Rattle.std.specs.Prelude.{◌≡◌, IfOk, IsSome, OnErr, OnOk};
+ghost use Rattle.std.specs.Result.{result_err};
+ghost use Rattle.sky_nfs.specs.Handles.{fileid_in};
+ghost use Rattle.sky_nfs.specs.Procedure.{refusal_of, tree_after};
+ghost use Rattle.sky_nfs.specs.Procedures.SetAttr.{guard_differs, is_client_time, is_server_time};
+ghost use Rattle.sky_nfs.specs.Results.{results_or, wcc};
+ghost use Rattle.sky_nfs.specs.Rules.{first_of};
+ghost use Rattle.sky_nfs.specs.Tree.{node_at};
+ghost use Rattle.sky_nfs.specs.declared.call.Call.{Call};
+ghost use Rattle.sky_tree.specs.Setting.{object_rules, setting_rules};
+
+use crate::attribute_rules::{has_bad_time, is_too_big, may_not_set_owners};
+use crate::results::{post_attributes, pre_attributes, wcc_answer};
+use crate::rules::{
+    attributes_at, is_stranger, lacks, lacks_unless_owner, node, refuse_if, resolve,
+};
+use sky_base::{Cred, Moment, NoMemory, Want};
+use sky_nfs::{NfsStatus, RawHandle, Refused, SetAttr, SetTime, WccData};
+use sky_nodes::Nodes;
+
+/// Whether a guard is given, and isn't the object's ctime.
+fn guard_differs(guard: Option<Moment>, ctime: Moment) -> bool
+    ensures { result ≡ guard_differs guard ctime }
+{
+    match guard {
+        Some(guard) => !(guard.seconds == ctime.seconds && guard.nanos == ctime.nanos),
+        None => false,
+    }
+}
+
+/// Whether a time is set to one of the caller's.
+fn is_client_time(time: SetTime) -> bool
+    ensures { result ≡ is_client_time time }
+{
+    matches!(time, SetTime::Client(_))
+}
+
+/// Whether a time is set to the server's.
+fn is_server_time(time: SetTime) -> bool
+    ensures { result ≡ is_server_time time }
+{
+    matches!(time, SetTime::Server)
+}
+
+/// The object of a SETATTR, whose ctime is the guard's.
+fn check_object(nodes: &Nodes, object: &RawHandle, guard: Option<Moment>) -> Result<u64, NfsStatus>
+    ensures refused { result_err result ≡ first_of (object_rules nodes.now object.now guard) }
+    ensures fileid { IfOk result (λ fileid. fileid ≡ fileid_in object.now) }
+    ensures there { IfOk result (λ fileid. IsSome (node_at nodes.now.nodes fileid)) }
+{
+    let fileid = resolve(nodes, object)?;
+    let attr = attributes_at(nodes, fileid);
+    refuse_if(guard_differs(guard, attr.ctime), NfsStatus::NotSync)?;
+    Ok(fileid)
+}
+
+/// What is set of an object: who may set it, and whether the object can have it.
+fn check_setting(nodes: &Nodes, cred: &Cred, fileid: u64, set: &SetAttr) -> Result<(), NfsStatus>
+    requires { IsSome (node_at nodes.now.nodes fileid) }
+    ensures { result_err result ≡ first_of (setting_rules nodes.now cred.now fileid set.now) }
+{
+    let attr = attributes_at(nodes, fileid);
+    let sized = set.size.is_some();
+    let stranger = is_stranger(nodes, cred, fileid);
+    refuse_if(has_bad_time(set), NfsStatus::Inval)?;
+    refuse_if(set.mode.is_some() && stranger, NfsStatus::Perm)?;
+    refuse_if(
+        may_not_set_owners(cred, attr.uid, attr.gid, set),
+        NfsStatus::Perm,
+    )?;
+    refuse_if(
+        sized && node(nodes, fileid).is_directory(),
+        NfsStatus::IsDir,
+    )?;
+    refuse_if(sized && node(nodes, fileid).is_link(), NfsStatus::Inval)?;
+    refuse_if(
+        sized && lacks_unless_owner(nodes, cred, fileid, Want::Write),
+        NfsStatus::Acces,
+    )?;
+    refuse_if(is_too_big(set.size), NfsStatus::FBig)?;
+    let client = is_client_time(set.atime) || is_client_time(set.mtime);
+    refuse_if(client && stranger, NfsStatus::Perm)?;
+    let server = is_server_time(set.atime) || is_server_time(set.mtime);
+    refuse_if(
+        server && stranger && lacks(nodes, cred, fileid, Want::Write),
+        NfsStatus::Acces,
+    )
+}
+
+/// The object of which a SETATTR sets attributes, or why it is refused.
+fn check_setattr(
+    nodes: &Nodes,
+    cred: &Cred,
+    object: &RawHandle,
+    set: &SetAttr,
+    guard: Option<Moment>,
+) -> Result<u64, NfsStatus>
+    ensures refused { result_err result ≡ refusal_of nodes.now cred.now (Call.SetAttr object.now set.now guard) }
+    ensures fileid { IfOk result (λ fileid. fileid ≡ fileid_in object.now) }
+    ensures there { IfOk result (λ fileid. IsSome (node_at nodes.now.nodes fileid)) }
+{
+    let fileid = check_object(nodes, object, guard)?;
+    check_setting(nodes, cred, fileid, set)?;
+    Ok(fileid)
+}
+
+/// Does a SETATTR, or says why it is refused.
+fn do_setattr(
+    nodes: &mut Nodes,
+    cred: &Cred,
+    object: &RawHandle,
+    set: &SetAttr,
+    guard: Option<Moment>,
+    now: Moment,
+) -> Result<Result<(), NfsStatus>, NoMemory>
+    ensures refused { IfOk result (λ done. result_err done ≡ refusal_of nodes.old cred.now (Call.SetAttr object.now set.now guard)) }
+    ensures tree { OnOk result (nodes.new ≡ tree_after nodes.old cred.now (Call.SetAttr object.now set.now guard) now) }
+    ensures err { OnErr result (nodes.new ≡ nodes.old) }
+{
+    let fileid = match check_setattr(nodes, cred, object, set, guard) {
+        Ok(fileid) => fileid,
+        Err(status) => return Ok(Err(status)),
+    };
+    nodes.set(fileid, set, now)?;
+    Ok(Ok(()))
+}
+
+/// Does a SETATTR, and answers it. `NoMemory` leaves all as it was.
+pub fn setattr(
+    nodes: &mut Nodes,
+    cred: &Cred,
+    object: &RawHandle,
+    set: &SetAttr,
+    guard: Option<Moment>,
+    now: Moment,
+) -> Result<Result<WccData, Refused<WccData>>, NoMemory>
+    ensures tree { OnOk result (nodes.new ≡ tree_after nodes.old cred.now (Call.SetAttr object.now set.now guard) now) }
+    ensures answer { IfOk result (λ answer. answer ≡ results_or (refusal_of nodes.old cred.now (Call.SetAttr object.now set.now guard)) (wcc nodes.old nodes.new object.now) (wcc nodes.old nodes.new object.now)) }
+    ensures err { OnErr result (nodes.new ≡ nodes.old) }
+{
+    let before = pre_attributes(nodes, object);
+    let done = do_setattr(nodes, cred, object, set, guard, now)?;
+    let after = post_attributes(nodes, object);
+    Ok(wcc_answer(done, WccData { before, after }))
+}
