@@ -1,0 +1,4 @@
+pub mod FrameLaws
+mod Headers
+mod Taken
+pub mod Beginnings
