@@ -1,0 +1,4 @@
+pub mod Call
+pub mod Reading
+pub mod Reply
+pub mod Values
