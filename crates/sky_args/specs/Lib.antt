@@ -1,0 +1,4 @@
+pub mod Parts
+pub mod Args
+pub mod Sizes
+pub mod Reading

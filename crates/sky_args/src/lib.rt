@@ -1,0 +1,25 @@
+//! The arguments of NFS version 3 (RFC 1813, section 3.3), read and written.
+#![tactic(auto)]
+
+mod attributes;
+mod changes;
+mod fault;
+mod handles;
+mod how;
+mod laws;
+mod length;
+mod queries;
+mod reading;
+mod writing;
+
+pub use fault::ArgFault;
+pub use laws::{
+    accepted_arguments_are_written, args_at_decides, arguments_have_one_reading,
+    written_arguments_are_read,
+};
+pub use length::args_length;
+pub use reading::read_args;
+pub use writing::write_args;
+
+#[cfg(test)]
+mod tests;
