@@ -1,0 +1,9 @@
+pub mod Sizes
+pub mod Bounds
+pub mod Entries
+pub mod OneReading
+pub mod PartsOnce
+pub mod ResultsOnce
+pub mod PagesOnce
+pub mod AnswersOnce
+pub mod Known
