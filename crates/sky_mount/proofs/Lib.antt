@@ -1,0 +1,4 @@
+pub mod Sizes
+pub mod ArgsLaws
+pub mod ResultsLaws
+pub mod Known

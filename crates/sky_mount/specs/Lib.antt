@@ -1,0 +1,3 @@
+pub mod Mount
+pub mod Reading
+pub mod Values
