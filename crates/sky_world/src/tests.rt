@@ -1,0 +1,309 @@
+ghost use Rattle.sky_script.specs.Frame.{IsInFrame};
+ghost use Rattle.sky_script.specs.Values.{frame_of};
+ghost use Rattle.sky_world.specs.Meaning.{IsStep};
+
+use super::*;
+use sky_base::{Moment, Status};
+use sky_memory::MemSink;
+use sky_script::{Frame, PAYLOAD_LIMIT, SESSION_COUNT};
+use std::alloc::Global;
+use std::test::Fail;
+
+/// What happens to a session.
+#[derive(Clone, Copy)]
+enum Event {
+    Begin,
+    Bytes(&'static [u8]),
+    Close,
+}
+
+/// What happens, to which session; and the frames that answer it, each with its kind, its session and its payload.
+type Case = (&'static [(u32, Event)], &'static [(u8, u32, &'static [u8])]);
+
+/// The frame of the opening: epoch 1, no changes, and none from the journal.
+const OPENING: &[u8] = b"\x13\0\0\0\0\0\0\0\x14\0\0\0\0\0\0\0\x01\0\0\0\0\0\0\0\0\0\0\0\0";
+
+/// The record of a NULL call, and of the reply to it.
+const NULL: &[u8] = b"\x80\0\0\x28\0\0\0\x07\0\0\0\0\0\0\0\x02\0\x01\x86\xa3\0\0\0\x03\
+    \0\0\0\0\0\0\0\0\0\0\0\0\0\0\0\0\0\0\0\0";
+
+const DONE: &[u8] = b"\x80\0\0\x18\0\0\0\x07\0\0\0\x01\0\0\0\0\0\0\0\0\0\0\0\0\0\0\0\0";
+
+/// Two NULL calls, the first in two fragments.
+const TWO: &[u8] = b"\0\0\0\x02\0\0\x80\0\0\x26\0\x07\0\0\0\0\0\0\0\x02\0\x01\x86\xa3\0\0\0\x03\
+    \0\0\0\0\0\0\0\0\0\0\0\0\0\0\0\0\0\0\0\0\
+    \x80\0\0\x28\0\0\0\x08\0\0\0\0\0\0\0\x02\0\x01\x86\xa3\0\0\0\x03\
+    \0\0\0\0\0\0\0\0\0\0\0\0\0\0\0\0\0\0\0\0";
+
+const DONE_8: &[u8] = b"\x80\0\0\x18\0\0\0\x08\0\0\0\x01\0\0\0\0\0\0\0\0\0\0\0\0\0\0\0\0";
+
+/// A record of four bytes, which is no call, and behind it the first byte of a header.
+const NO_CALL: &[u8] = b"\x80\0\0\x04abcd\x80";
+
+/// A header that says 131,073.
+const TOO_LONG: &[u8] = b"\x80\x02\0\x01";
+
+/// Version 2 of another program, version 2 of NFS with procedure 22, procedure 22, GETATTR without a handle, and NULL with
+/// a byte of arguments. Then GETATTR of a handle of no bytes.
+const CASES_5_TO_8: &[u8] = b"\x80\0\0\x28\0\0\0\x05\0\0\0\0\0\0\0\x02\0\x01\x86\xa0\0\0\0\x02\
+    \0\0\0\x16\0\0\0\0\0\0\0\0\0\0\0\0\0\0\0\0\
+    \x80\0\0\x28\0\0\0\x06\0\0\0\0\0\0\0\x02\0\x01\x86\xa3\0\0\0\x02\
+    \0\0\0\x16\0\0\0\0\0\0\0\0\0\0\0\0\0\0\0\0\
+    \x80\0\0\x28\0\0\0\x07\0\0\0\0\0\0\0\x02\0\x01\x86\xa3\0\0\0\x03\
+    \0\0\0\x16\0\0\0\0\0\0\0\0\0\0\0\0\0\0\0\0\
+    \x80\0\0\x28\0\0\0\x08\0\0\0\0\0\0\0\x02\0\x01\x86\xa3\0\0\0\x03\
+    \0\0\0\x01\0\0\0\0\0\0\0\0\0\0\0\0\0\0\0\0\
+    \x80\0\0\x29\0\0\0\x09\0\0\0\0\0\0\0\x02\0\x01\x86\xa3\0\0\0\x03\
+    \0\0\0\0\0\0\0\0\0\0\0\0\0\0\0\0\0\0\0\0M\
+    \x80\0\0\x2c\0\0\0\x0a\0\0\0\0\0\0\0\x02\0\x01\x86\xa3\0\0\0\x03\
+    \0\0\0\x01\0\0\0\0\0\0\0\0\0\0\0\0\0\0\0\0\0\0\0\0";
+
+/// EXPORT, MNT of `/`, MNT of `/a`, EXPORT with a byte of arguments, and procedure 6 of MOUNT.
+const MOUNT: &[u8] = b"\x80\0\0\x28\0\0\0\x03\0\0\0\0\0\0\0\x02\0\x01\x86\xa5\0\0\0\x03\
+    \0\0\0\x05\0\0\0\0\0\0\0\0\0\0\0\0\0\0\0\0\
+    \x80\0\0\x30\0\0\0\x04\0\0\0\0\0\0\0\x02\0\x01\x86\xa5\0\0\0\x03\
+    \0\0\0\x01\0\0\0\0\0\0\0\0\0\0\0\0\0\0\0\0\0\0\0\x01/\0\0\0\
+    \x80\0\0\x30\0\0\0\x05\0\0\0\0\0\0\0\x02\0\x01\x86\xa5\0\0\0\x03\
+    \0\0\0\x01\0\0\0\0\0\0\0\0\0\0\0\0\0\0\0\0\0\0\0\x02/a\0\0\
+    \x80\0\0\x29\0\0\0\x06\0\0\0\0\0\0\0\x02\0\x01\x86\xa5\0\0\0\x03\
+    \0\0\0\x05\0\0\0\0\0\0\0\0\0\0\0\0\0\0\0\0M\
+    \x80\0\0\x28\0\0\0\x07\0\0\0\0\0\0\0\x02\0\x01\x86\xa5\0\0\0\x03\
+    \0\0\0\x06\0\0\0\0\0\0\0\0\0\0\0\0\0\0\0\0";
+
+static CASES: [Case; 7] = [
+    // Two sessions, in turns; the record of session 0 ends first.
+    (
+        &[
+            (0, Event::Begin),
+            (255, Event::Begin),
+            (0, Event::Bytes(b"\x80\0\0\x28\0\0")),
+            (255, Event::Bytes(NULL)),
+            (
+                0,
+                Event::Bytes(
+                    b"\0\x07\0\0\0\0\0\0\0\x02\0\x01\x86\xa3\0\0\0\x03\0\0\0\0\0\0\0\0\0\0\0\0\0\0\0\0\0\0\0\0",
+                ),
+            ),
+        ],
+        &[(2, 255, DONE), (2, 0, DONE)],
+    ),
+    // Both records of one payload are answered.
+    (
+        &[(3, Event::Begin), (3, Event::Bytes(TWO))],
+        &[(2, 3, DONE), (2, 3, DONE_8)],
+    ),
+    // What is no call closes the session, until it begins again with an empty stream.
+    (
+        &[
+            (1, Event::Begin),
+            (1, Event::Bytes(NO_CALL)),
+            (1, Event::Bytes(NULL)),
+            (1, Event::Begin),
+            (1, Event::Bytes(NULL)),
+        ],
+        &[(3, 1, b""), (2, 1, DONE)],
+    ),
+    // So does a record that is too long.
+    (
+        &[
+            (1, Event::Begin),
+            (1, Event::Bytes(TOO_LONG)),
+            (1, Event::Bytes(NULL)),
+        ],
+        &[(3, 1, b"")],
+    ),
+    // What has not begun, or was ended, is passed over. A session that begins anew has an empty stream.
+    (
+        &[
+            (9, Event::Bytes(NULL)),
+            (9, Event::Close),
+            (9, Event::Bytes(NULL)),
+            (9, Event::Begin),
+            (9, Event::Close),
+            (9, Event::Bytes(NULL)),
+            (9, Event::Begin),
+            (9, Event::Bytes(b"\x80\0\0")),
+            (9, Event::Begin),
+            (9, Event::Bytes(NULL)),
+        ],
+        &[(2, 9, DONE)],
+    ),
+    (
+        &[(0, Event::Begin), (0, Event::Bytes(MOUNT))],
+        &[
+            (
+                2,
+                0,
+                b"\x80\0\0\x2c\0\0\0\x03\0\0\0\x01\0\0\0\0\0\0\0\0\0\0\0\0\0\0\0\0\
+                    \0\0\0\x01\0\0\0\x01/\0\0\0\0\0\0\0\0\0\0\0",
+            ),
+            (
+                2,
+                0,
+                b"\x80\0\0\x3c\0\0\0\x04\0\0\0\x01\0\0\0\0\0\0\0\0\0\0\0\0\0\0\0\0\
+                    \0\0\0\0\0\0\0\x10\0\0\0\0\0\0\0\x01\0\0\0\0\0\0\0\x01\
+                    \0\0\0\x02\0\0\0\x01\0\0\0\0",
+            ),
+            (
+                2,
+                0,
+                b"\x80\0\0\x1c\0\0\0\x05\0\0\0\x01\0\0\0\0\0\0\0\0\0\0\0\0\0\0\0\0\0\0\0\x02",
+            ),
+            (
+                2,
+                0,
+                b"\x80\0\0\x18\0\0\0\x06\0\0\0\x01\0\0\0\0\0\0\0\0\0\0\0\0\0\0\0\x04",
+            ),
+            (
+                2,
+                0,
+                b"\x80\0\0\x18\0\0\0\x07\0\0\0\x01\0\0\0\0\0\0\0\0\0\0\0\0\0\0\0\x03",
+            ),
+        ],
+    ),
+    (
+        &[(0, Event::Begin), (0, Event::Bytes(CASES_5_TO_8))],
+        &[
+            (
+                2,
+                0,
+                b"\x80\0\0\x18\0\0\0\x05\0\0\0\x01\0\0\0\0\0\0\0\0\0\0\0\0\0\0\0\x01",
+            ),
+            (
+                2,
+                0,
+                b"\x80\0\0\x20\0\0\0\x06\0\0\0\x01\0\0\0\0\0\0\0\0\0\0\0\0\0\0\0\x02\0\0\0\x03\0\0\0\x03",
+            ),
+            (
+                2,
+                0,
+                b"\x80\0\0\x18\0\0\0\x07\0\0\0\x01\0\0\0\0\0\0\0\0\0\0\0\0\0\0\0\x03",
+            ),
+            (
+                2,
+                0,
+                b"\x80\0\0\x18\0\0\0\x08\0\0\0\x01\0\0\0\0\0\0\0\0\0\0\0\0\0\0\0\x04",
+            ),
+            (
+                2,
+                0,
+                b"\x80\0\0\x18\0\0\0\x09\0\0\0\x01\0\0\0\0\0\0\0\0\0\0\0\0\0\0\0\x04",
+            ),
+            // NFS3ERR_BADHANDLE is 10001.
+            (
+                2,
+                0,
+                b"\x80\0\0\x1c\0\0\0\x0a\0\0\0\x01\0\0\0\0\0\0\0\0\0\0\0\0\0\0\0\0\0\0\x27\x11",
+            ),
+        ],
+    ),
+];
+
+/// Does a frame.
+fn step(alloc: Global, world: &mut World, frame: &Frame<'_>, sink: &mut MemSink) -> Result<(), Fail>
+    requires formed { IsInFrame (frame_of frame.now) }
+    requires step { IsStep (frame_of frame.now) }
+{
+    if world.ended() {
+        return Err("ended".into());
+    }
+    world.step(alloc, frame, sink).map_err(|_| "no step")?;
+    Ok(())
+}
+
+/// Lets something happen to a session.
+fn happen(
+    alloc: Global,
+    world: &mut World,
+    session: u32,
+    event: Event,
+    sink: &mut MemSink,
+) -> Result<(), Fail> {
+    if session >= SESSION_COUNT {
+        return Err("no such session".into());
+    }
+    match event {
+        Event::Begin => step(alloc, world, &Frame::Begin { session }, sink),
+        Event::Bytes(payload) => {
+            if payload.len() > PAYLOAD_LIMIT as usize {
+                return Err("too much".into());
+            }
+            step(alloc, world, &Frame::Bytes { session, payload }, sink)
+        }
+        Event::Close => step(alloc, world, &Frame::Close { session }, sink),
+    }
+}
+
+/// The bytes of the opening and of these frames.
+fn encoded(alloc: Global, frames: &[(u8, u32, &[u8])]) -> Result<Vec<u8>, Fail> {
+    let mut bytes = Vec::from_slice(alloc, OPENING)?;
+    for (kind, session, payload) in frames {
+        bytes.push(*kind)?;
+        bytes.extend_from_slice(&session.to_be_bytes())?;
+        let length = u32::try_from(payload.len())?;
+        bytes.extend_from_slice(&length.to_be_bytes())?;
+        bytes.extend_from_slice(payload)?;
+    }
+    Ok(bytes)
+}
+
+#[test]
+fn sessions(rt: HostRuntime) -> Result<(), Fail> {
+    let alloc = rt.alloc();
+    for (events, answers) in &CASES {
+        let mut sink = MemSink::new(alloc, 4096, Vec::new(alloc)).map_err(|_| "no memory")?;
+        let mut world = World::start(alloc, &mut sink).map_err(|_| "no world")?;
+        for (session, event) in *events {
+            happen(alloc, &mut world, *session, *event, &mut sink)?;
+        }
+        let want = encoded(alloc, answers)?;
+        assert_eq!(rt; sink.bytes(), want.as_slice());
+        assert!(rt; !world.ended());
+    }
+    Ok(())
+}
+
+#[test]
+fn records_cut_anywhere(rt: HostRuntime) -> Result<(), Fail> {
+    let alloc = rt.alloc();
+    let mut sink = MemSink::new(alloc, 4096, Vec::new(alloc)).map_err(|_| "no memory")?;
+    let mut world = World::start(alloc, &mut sink).map_err(|_| "no world")?;
+    let now = Moment {
+        seconds: 1,
+        nanos: 999_999_999,
+    };
+    step(alloc, &mut world, &Frame::SetMoment(now), &mut sink)?;
+    for session in [0, 1] {
+        happen(alloc, &mut world, session, Event::Begin, &mut sink)?;
+    }
+    for byte in NULL.chunks(1) {
+        happen(alloc, &mut world, 0, Event::Bytes(byte), &mut sink)?;
+        happen(alloc, &mut world, 1, Event::Bytes(byte), &mut sink)?;
+    }
+    let want = encoded(alloc, &[(2, 0, DONE), (2, 1, DONE)])?;
+    assert_eq!(rt; sink.bytes(), want.as_slice());
+    Ok(())
+}
+
+#[test]
+fn a_write_that_fails_ends_the_world(rt: HostRuntime) -> Result<(), Fail> {
+    let alloc = rt.alloc();
+    // The opening is two writes, and so is a reply.
+    let fail = Vec::from_slice(alloc, &[5])?;
+    let mut sink = MemSink::new(alloc, 4096, fail).map_err(|_| "no memory")?;
+    let mut world = World::start(alloc, &mut sink).map_err(|_| "no world")?;
+    happen(alloc, &mut world, 0, Event::Begin, &mut sink)?;
+    assert!(rt; !world.ended());
+    let frame = Frame::Bytes {
+        session: 0,
+        payload: TWO,
+    };
+    assert_eq!(rt;
+        world.step(alloc, &frame, &mut sink),
+        Err(Status::SinkFault)
+    );
+    assert!(rt; world.ended());
+    let want = encoded(alloc, &[(2, 0, DONE)])?;
+    assert!(rt; sink.bytes().starts_with(&want));
+    Ok(())
+}
