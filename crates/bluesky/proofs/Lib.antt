@@ -1,10 +1,7 @@
-pub mod FrameLaws
-pub mod HandleLaws
-pub mod RecordLaws
-pub mod CallLaws
-pub mod StepLaws
-pub mod RunLaws
-pub mod ReadingLaws
-pub mod ExactLaws
-pub mod RunSteps
-pub mod RunBegins
+mod Endings
+mod Comparing
+mod OneReading
+pub mod Existing
+mod Going
+mod Stopping
+mod Beginning

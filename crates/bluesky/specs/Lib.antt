@@ -1,12 +1,4 @@
-pub mod Frame
-pub mod Results
-pub mod Record
-pub mod RecordReading
-pub mod Meaning
+pub mod Adapter
+pub mod Words
 pub mod Run
 pub mod Stop
-pub mod Script
-pub mod Faults
-pub mod Rpc
-pub mod Nfs
-pub mod World

@@ -1,123 +1,155 @@
--- What a run of `replay` did, by the status with which it ended.
-use Rattle.std.specs.Prelude.{◌≡◌, ◌≢◌, ◌+◌, ◌<◌, ◌≤◌, ◌⊎◌, ℕ, List, [], ◌∷◌, ◌++◌, length, take, slice_index, Option, codes}
+-- What a run of `replay` did with its source and its sink, by the status with which it ended.
+use Rattle.std.specs.Prelude.{◌≡◌, ◌≢◌, ◌+◌, ◌<◌, ◌≤◌, ◌^◌, ◌⊎◌, ℕ, List, [], ◌∷◌, ◌++◌, length, take, Option, Some}
 use Rattle.std.specs.List.{AllByRecursion}
 use Rattle.sky_base.specs.declared.status.Status.{Status}
 use Rattle.sky_base.specs.declared.status.Status.TheVariants.{Done, Words, Malformed, Early, SourceFault, SinkFault, Memory, Long, Settings}
-use Rattle.sky_outside.specs.Told.{WhereTold, Had, Given, GivenPart}
-use Rattle.bluesky.specs.Frame.{InFrame, End, OutFrame, Ended, IsInFrame, in_frame, in_frames, out_frame, out_frames, magic, IsRefused, IsCutShort}
-use Rattle.bluesky.specs.Meaning.{State, start, opening, Steps, HasNoStep, IsStep}
-
--- ---- the words
-
--- the value of an option: it isn't empty, and doesn't look like an option
-abbrev pub IsValue : List ℕ → Type 0
-IsValue text = (0 < length text) × (slice_index text 0 ≢ 45)
-
--- the words of the command: replay --journal PATH --cloud PATH
-pub record IsReplay (words : List (List ℕ)) : Type 0 where
-  pub journal : List ℕ
-  pub cloud : List ℕ
-  pub journal_value : IsValue journal
-  pub cloud_value : IsValue cloud
-  pub spelled : words ≡ codes "replay" ∷ codes "--journal" ∷ journal ∷ codes "--cloud" ∷ cloud ∷ []
-
--- ---- what is read
+use Rattle.sky_outside.specs.Count.{Rose}
+use Rattle.sky_outside.specs.Told.{WhereTold, Had, Given}
+use Rattle.sky_xdr.specs.Encoding.{AreBytes}
+use Rattle.sky_script.specs.Frame.{InFrame, Begin, End, OutFrame, Ended, IsInFrame, session_count, in_frame, in_frames, out_frame, out_frames, magic}
+use Rattle.sky_script.specs.Beginning.{IsRefused, IsCutShort}
+use Rattle.sky_world.specs.Meaning.{State, Absent, start, opening, session_at, Step, Steps}
 
 -- how many frames a recording may have, the end among them
 abbrev pub frame_limit : ℕ
-frame_limit = 4294967296
+frame_limit = 2 ^ 32
 
 -- Frames that were handled from the start: these answers came, and this is the state after them.
 pub record Handled (frames : List InFrame) (answers : List OutFrame) (last : State) : Type 0 where
   pub formed : AllByRecursion IsInFrame frames
   pub steps : Steps start frames answers last
 
--- the bytes of a recording are the magic, these frames, and the rest
-abbrev pub IsSpelled : List ℕ → List InFrame → List ℕ → Type 0
-IsSpelled bytes frames rest = bytes ≡ magic ++ in_frames frames ++ rest
+-- the bytes of a recording: the magic, these frames, and what follows
+abbrev pub recording : List InFrame → List ℕ → List ℕ
+recording frames next = magic ++ in_frames frames ++ next
 
--- Where the next frame was due there is none that can be handled: no frame begins so, or the frame there has no step.
-pub data IsMisplaced (state : State) (rest : List ℕ) : Type 0 where
-  no_frame : IsRefused rest → IsMisplaced state rest
-  no_step : (f : InFrame) (more : List ℕ) → rest ≡ in_frame f ++ more → IsInFrame f → IsStep f → HasNoStep state f → IsMisplaced state rest
-
--- the bytes begin with something else than the magic
-abbrev pub IsOtherMagic : List ℕ → Type 0
-IsOtherMagic bytes = (8 ≤ length bytes) × (take 8 bytes ≢ magic)
-
--- The bytes leave the grammar behind these frames, at this place: at the magic, or at the first byte of a frame.
-pub data LeavesGrammar (bytes : List ℕ) (frames : List InFrame) (state : State) (at : ℕ) : Type 0 where
-  at_magic : frames ≡ [] → at ≡ 0 → 8 ≤ length bytes → take 8 bytes ≢ magic → LeavesGrammar bytes frames state at
-  at_frame : (rest : List ℕ) → IsSpelled bytes frames rest → at ≡ 8 + length (in_frames frames) → IsMisplaced state rest → LeavesGrammar bytes frames state at
-
--- The bytes end behind these frames, before the end was whole: within the magic, or within a frame.
-pub data EndsEarly (bytes : List ℕ) (frames : List InFrame) : Type 0 where
-  within_magic : frames ≡ [] → length bytes < 8 → EndsEarly bytes frames
-  within_frame : (rest : List ℕ) → IsSpelled bytes frames rest → IsCutShort rest → EndsEarly bytes frames
-
--- a recording that ends well behind these frames
-abbrev pub EndsWell : List ℕ → List InFrame → Type 0
-EndsWell bytes frames = (more : List ℕ) × IsSpelled bytes frames (in_frame End ++ more)
-
--- a recording goes at least as far as these frames
-abbrev pub GoesAsFar : List ℕ → List InFrame → Type 0
-GoesAsFar bytes frames = (frames ≡ []) ⊎ ((rest : List ℕ) × IsSpelled bytes frames rest)
-
--- A recording that can be handled to its end: each of its frames can, there are fewer than the limit, and the end follows.
-pub record IsWhole (bytes : List ℕ) : Type 0 where
-  pub frames : List InFrame
-  pub answers : List OutFrame
-  pub last : State
-  pub handled : Handled frames answers last
-  pub few : length frames < frame_limit
-  pub ends : EndsWell bytes frames
-
--- What a source had that was read as far as these frames, by the status that followed.
-abbrev pub IsRead : Status → List InFrame → State → Option (List ℕ) → Option (List ℕ) → Type 0
-IsRead Done frames last had left = (length frames < frame_limit) × Had had left (magic ++ in_frames frames ++ in_frame End)
-IsRead (Malformed at) frames last had left = (length frames < frame_limit) × WhereTold had (λ bytes. LeavesGrammar bytes frames last at)
-IsRead Early frames last had left = (length frames < frame_limit) × WhereTold had (λ bytes. EndsEarly bytes frames)
-IsRead Long frames last had left = (length frames ≡ frame_limit) × Had had left (magic ++ in_frames frames)
-IsRead SourceFault frames last had left = WhereTold had (λ bytes. GoesAsFar bytes frames)
-IsRead SinkFault frames last had left = WhereTold had (λ bytes. GoesAsFar bytes frames)
-IsRead Memory frames last had left = (frames ≡ []) × (left ≡ had)
-IsRead Words frames last had left = (frames ≡ []) × (left ≡ had)
-IsRead Settings frames last had left = (frames ≡ []) × (left ≡ had)
-
--- ---- what is written
-
--- the magic, the frame of the opening, and answers
+-- the bytes of what is written: the magic, the frame of the opening, and answers
 abbrev pub session_bytes : List OutFrame → List ℕ
 session_bytes answers = magic ++ out_frames (opening ∷ answers)
 
--- A sink was given these bytes, and then the last frame, or a front of it where the sink failed.
-pub record GivenEnding (body : List ℕ) (status : Status) (before after : Option (List ℕ)) (rose : Type 0) : Type 0 where
+-- ---- what a run does with its source
+
+-- what a source had before a run, and what it has left after it, where it tells
+pub record SourceUse : Type 0 where
+  pub had : Option (List ℕ)
+  pub left : Option (List ℕ)
+
+-- these bytes were taken from it, and no byte more
+abbrev pub Took : SourceUse → List ℕ → Type 0
+Took source bytes = Had source.had source.left bytes
+
+-- nothing was taken from it
+abbrev pub TookNothing : SourceUse → Type 0
+TookNothing source = source.left ≡ source.had
+
+-- It was read as far as what is no recording: eight bytes that are not the magic, at 0, or behind these frames what is refused,
+-- at its first byte.
+pub data TookRefused (source : SourceUse) (frames : List InFrame) (at : ℕ) : Type 0 where
+  other_magic : (taken : List ℕ) → frames ≡ [] → at ≡ 0 → length taken ≡ 8 → taken ≢ magic → Took source taken → TookRefused source frames at
+  no_frame : (taken : List ℕ) → at ≡ 8 + length (in_frames frames) → IsRefused taken → Took source (recording frames taken) → TookRefused source frames at
+
+-- It was read within the magic; or, behind these frames, within the next one.
+pub data TookPart (source : SourceUse) (frames : List InFrame) : Type 0 where
+  within_magic : (taken : List ℕ) → frames ≡ [] → length taken < 8 → Took source taken → TookPart source frames
+  within_frame : (taken : List ℕ) → IsCutShort taken → Took source (recording frames taken) → TookPart source frames
+
+-- a recording may go on behind so many frames
+abbrev pub AreFew : List InFrame → Type 0
+AreFew frames = length frames < frame_limit
+
+-- how far it was read behind these frames, by the status, where the bytes decide that
+abbrev pub ReadTo : Status → SourceUse → List InFrame → Type 0
+ReadTo Done source frames = AreFew frames × Took source (recording frames (in_frame End))
+ReadTo (Malformed at) source frames = AreFew frames × TookRefused source frames at
+ReadTo Early source frames = AreFew frames × TookPart source frames × WhereTold source.left (λ rest. rest ≡ [])
+ReadTo Long source frames = (length frames ≡ frame_limit) × Took source (recording frames [])
+ReadTo _ source frames = ⊥
+
+-- ---- what a run does with its sink
+
+-- what a sink had been given before a run, and what after it, where it tells, and its counts of faults
+pub record SinkUse : Type 0 where
+  pub before : Option (List ℕ)
+  pub after : Option (List ℕ)
+  pub faults_before : ℕ
+  pub faults_after : ℕ
+
+-- these bytes were given to it, and no byte more
+abbrev pub Gave : SinkUse → List ℕ → Type 0
+Gave sink bytes = Given sink.before sink.after bytes
+
+-- It was given the body, and of what was to follow a prefix that is not all of it.
+pub record GaveUpTo (sink : SinkUse) (body more : List ℕ) : Type 0 where
   pub kept : ℕ
-  pub given : Given before after (body ++ take kept (out_frame (Ended status)))
-  pub whole : kept < length (out_frame (Ended status)) → rose
+  pub less : kept < length more
+  pub given : Gave sink (body ++ take kept more)
 
--- What a sink was given, by the status that followed.
-abbrev pub IsWritten : Status → List OutFrame → Option (List ℕ) → Option (List ℕ) → Type 0 → Type 0
-IsWritten Done answers before after rose = Given before after (session_bytes (answers ++ Ended Done ∷ []))
-IsWritten (Malformed at) answers before after rose = GivenEnding (session_bytes answers) (Malformed at) before after rose
-IsWritten Early answers before after rose = GivenEnding (session_bytes answers) Early before after rose
-IsWritten Long answers before after rose = GivenEnding (session_bytes answers) Long before after rose
-IsWritten SourceFault answers before after rose = GivenEnding (session_bytes answers) SourceFault before after rose
-IsWritten Memory answers before after rose = GivenEnding magic Memory before after rose
-IsWritten SinkFault answers before after rose = GivenPart before after (session_bytes (answers ++ Ended Done ∷ []))
-IsWritten Words answers before after rose = after ≡ before
-IsWritten Settings answers before after rose = after ≡ before
+-- It was given the body, and then the last frame with this status: all of it, and no write failed; or less of it, and one did.
+pub record GaveEnding (sink : SinkUse) (body : List ℕ) (status : Status) : Type 0 where
+  pub kept : ℕ
+  pub given : Gave sink (body ++ take kept (out_frame (Ended status)))
+  pub whole : length (out_frame (Ended status)) ≤ kept → sink.faults_after ≡ sink.faults_before
+  pub cut : kept < length (out_frame (Ended status)) → Rose sink.faults_before sink.faults_after
 
--- ---- both
+-- The count did not fall. It rose where the sink is blamed, and it stayed where all was written.
+pub record SinkCounts (before now : ℕ) (status : Status) : Type 0 where
+  pub grows : before ≤ now
+  pub cause : status ≡ SinkFault → Rose before now
+  pub quiet : status ≡ Done → now ≡ before
 
--- A run that ended with this status: it handled these frames of what the source had, and gave the sink what they mean.
-pub record Ran (status : Status) (had left before after : Option (List ℕ)) (rose : Type 0) : Type 0 where
+-- ---- how a run ends
+
+-- The sink failed: at the opening, before anything was read; at the answer to the frame that was read last, of which it got less
+-- than all; or at the last frame, behind the end.
+pub data SinkFailed (source : SourceUse) (sink : SinkUse) (frames : List InFrame) (answers : List OutFrame) (last : State) : Type 0 where
+  at_opening : frames ≡ [] → TookNothing source → GaveUpTo sink [] (session_bytes []) → SinkFailed source sink frames answers last
+  at_answer : (f : InFrame) (outs : List OutFrame) (new : State) → IsInFrame f → Step last f outs new → Took source (recording frames (in_frame f))
+      → GaveUpTo sink (session_bytes answers) (out_frames outs) → SinkFailed source sink frames answers last
+  at_end : Took source (recording frames (in_frame End)) → GaveUpTo sink (session_bytes answers) (out_frame (Ended Done)) → SinkFailed source sink frames answers last
+
+-- There was no memory: before the opening, and nothing was read; or for a session that had not begun before, and begins in the
+-- frame that was read last.
+pub data RanOut (source : SourceUse) (sink : SinkUse) (frames : List InFrame) (answers : List OutFrame) (last : State) : Type 0 where
+  before_opening : frames ≡ [] → TookNothing source → GaveEnding sink magic Memory → RanOut source sink frames answers last
+  at_begin : (session : ℕ) → session < session_count → session_at last session ≡ Absent → Took source (recording frames (in_frame (Begin session)))
+      → GaveEnding sink (session_bytes answers) Memory → RanOut source sink frames answers last
+
+-- what was read and written behind these frames and their answers, by the status
+abbrev pub EndsBy : Status → SourceUse → SinkUse → List InFrame → List OutFrame → State → Type 0
+EndsBy Done source sink frames answers last = ReadTo Done source frames × Gave sink (session_bytes (answers ++ Ended Done ∷ []))
+EndsBy (Malformed at) source sink frames answers last = ReadTo (Malformed at) source frames × GaveEnding sink (session_bytes answers) (Malformed at)
+EndsBy Early source sink frames answers last = ReadTo Early source frames × GaveEnding sink (session_bytes answers) Early
+EndsBy Long source sink frames answers last = ReadTo Long source frames × GaveEnding sink (session_bytes answers) Long
+EndsBy SourceFault source sink frames answers last = AreFew frames × TookPart source frames × GaveEnding sink (session_bytes answers) SourceFault
+EndsBy SinkFault source sink frames answers last = AreFew frames × SinkFailed source sink frames answers last
+EndsBy Memory source sink frames answers last = AreFew frames × RanOut source sink frames answers last
+-- nothing was read or written
+EndsBy Words source sink frames answers last = (frames ≡ []) × TookNothing source × (sink.after ≡ sink.before)
+EndsBy Settings source sink frames answers last = (frames ≡ []) × TookNothing source × (sink.after ≡ sink.before)
+
+-- A run that ended with this status: it handled these frames of what the source had, gave the sink all their answers, and then
+-- ended so.
+pub record Ran (status : Status) (source : SourceUse) (sink : SinkUse) : Type 0 where
   pub frames : List InFrame
   pub answers : List OutFrame
   pub last : State
   pub handled : Handled frames answers last
-  pub read : IsRead status frames last had left
-  pub written : IsWritten status answers before after rose
+  pub ends : EndsBy status source sink frames answers last
+
+-- ---- what the bytes of a source ask for
+
+-- A reading of a recording: these frames are handled, with these answers, and then it stops with this status and leaves the rest.
+pub record IsReading (bytes : List ℕ) (frames : List InFrame) (answers : List OutFrame) (last : State) (status : Status) (rest : List ℕ) : Type 0 where
+  pub handled : Handled frames answers last
+  pub read : ReadTo status (record { had = Some bytes; left = Some rest }) frames
+
+-- A recording has a reading, and no two.
+pub record HasOneReading (bytes : List ℕ) : Type 0 where
+  pub some : AreBytes bytes → (frames : List InFrame) × (answers : List OutFrame) × (last : State) × (status : Status) × (rest : List ℕ)
+      × IsReading bytes frames answers last status rest
+  pub one : (frames others : List InFrame) (answers replies : List OutFrame) (last end : State) (status verdict : Status) (rest more : List ℕ)
+      → IsReading bytes frames answers last status rest → IsReading bytes others replies end verdict more
+      → (frames ≡ others) × (answers ≡ replies) × (last ≡ end) × (status ≡ verdict) × (rest ≡ more)
 
 -- the statuses that blame a device, or the memory
 abbrev pub IsFree : Status → Type 0
@@ -126,43 +158,14 @@ IsFree SinkFault = Unit {0}
 IsFree Memory = Unit {0}
 IsFree _ = ⊥
 
--- this status, unless one of those stands in its place
-abbrev pub IsUnlessFree : Status → Status → Type 0
-IsUnlessFree status expected = (status ≡ expected) ⊎ IsFree status
-
--- the status is the one that the bytes of the source ask for
-pub record IsExact (status : Status) (bytes : List ℕ) : Type 0 where
-  pub done : (frames : List InFrame) (answers : List OutFrame) (last : State) → Handled frames answers last
-      → length frames < frame_limit → EndsWell bytes frames → IsUnlessFree status Done
-  pub malformed : (frames : List InFrame) (answers : List OutFrame) (last : State) (at : ℕ) → Handled frames answers last
-      → length frames < frame_limit → LeavesGrammar bytes frames last at → IsUnlessFree status (Malformed at)
-  pub early : (frames : List InFrame) (answers : List OutFrame) (last : State) → Handled frames answers last
-      → length frames < frame_limit → EndsEarly bytes frames → IsUnlessFree status Early
-  pub long : (frames : List InFrame) (answers : List OutFrame) (last : State) → Handled frames answers last
-      → length frames ≡ frame_limit → GoesAsFar bytes frames → IsUnlessFree status Long
+-- the status is that of the reading of these bytes, unless it blames a device, or the memory
+abbrev pub IsExact : Status → List ℕ → Type 0
+IsExact status bytes =
+    (frames : List InFrame) (answers : List OutFrame) (last : State) (expected : Status) (rest : List ℕ)
+    → IsReading bytes frames answers last expected rest → (status ≡ expected) ⊎ IsFree status
 
 -- a status of a run that began
 abbrev pub IsReplayed : Status → Type 0
 IsReplayed Words = ⊥
 IsReplayed Settings = ⊥
 IsReplayed _ = Unit {0}
-
--- ---- one reading
-
--- how a recording stops behind frames that were handled, by the status that says so
-abbrev pub Stops : Status → List ℕ → List InFrame → State → Type 0
-Stops Done bytes frames last = EndsWell bytes frames
-Stops (Malformed at) bytes frames last = LeavesGrammar bytes frames last at
-Stops Early bytes frames last = EndsEarly bytes frames
-Stops _ bytes frames last = ⊥
-
--- A reading of a recording: these frames are handled, with these answers, and then it stops.
-pub record IsReading (bytes : List ℕ) (frames : List InFrame) (answers : List OutFrame) (last : State) (status : Status) : Type 0 where
-  pub handled : Handled frames answers last
-  pub stops : Stops status bytes frames last
-
--- No two readings of a recording differ.
-pub record HasOneReading (bytes : List ℕ) : Type 0 where
-  pub one : (frames others : List InFrame) (answers replies : List OutFrame) (last end : State) (status verdict : Status)
-      → IsReading bytes frames answers last status → IsReading bytes others replies end verdict
-      → (frames ≡ others) × (answers ≡ replies) × (last ≡ end) × (status ≡ verdict)

@@ -2,61 +2,93 @@
 //! So far it replays recorded sessions: `bluesky replay --journal PATH --cloud PATH`.
 #![tactic(auto)]
 
-mod nfs;
-mod outcome;
-mod record;
-mod results;
-mod rpc;
-mod run;
-mod script;
-mod stdio;
-mod sure;
-mod tree;
-mod words;
-mod world;
+ghost use Rattle.std.specs.Prelude.{◌≡◌, ◌≢◌, [], drop, map, string_bytes, IfOk, IfErr};
+ghost use Rattle.std.specs.Process.{exit_status};
+ghost use Rattle.std.specs.Vec.Iter.{into_iter_items};
+ghost use Rattle.sky_base.specs.Status.{number_of};
+ghost use Rattle.bluesky.specs.Words.{IsReplay};
 
+mod ending;
+mod frames;
+mod infallible;
+mod laws;
+mod run;
+mod stdio;
+mod words;
+
+pub use infallible::run_infallible;
+pub use laws::each_recording_has_one_reading;
 pub use run::run;
 use sky_base::Status;
 use sky_memory::SureSite;
 use std::alloc::Global;
+use std::env::Args;
 use std::io::ErrorKind;
 use std::process::ExitCode;
 use std::rt::Env;
 use std::{env, fmt, io};
 pub use stdio::{StdinSource, StdoutSink};
-pub use sure::{each_recording_has_one_reading, run_surely};
 
 #[cfg(test)]
 mod tests;
 
-/// The words of the command line, without the program's name. Words that can't be read, as those that
-/// aren't UTF-8, are no command.
+/// What stands behind the program's name.
+fn without_name(mut args: Vec<String>) -> Vec<String>
+    ensures { result.items ≡ drop 1 args.items }
+{
+    if !args.is_empty() {
+        let _name = args.remove(0);
+    }
+    args
+}
+
+/// The words of the command line: what the process was started with, without the program's name.
+///
+/// `Memory` where there's none for them.
+fn words_of(alloc: Global, args: Args) -> Result<Vec<String>, Status>
+    ensures words { IfOk result (λ words. words.items ≡ drop 1 (into_iter_items args)) }
+    ensures memory { IfErr result (λ status. status ≡ Status.Memory) }
+{
+    match args.collect(alloc) {
+        Ok(all) => Ok(without_name(all)),
+        Err(_) => Err(Status::Memory),
+    }
+}
+
+/// The words of the command line. Words that can't be read, as those that aren't UTF-8, are no command.
 fn read_words(rt: &(impl Env + AllocGlobal)) -> Result<Vec<String>, Status> {
     match env::args(rt) {
-        Ok(words) => words
-            .skip(1)
-            .collect(rt.alloc())
-            .map_err(|_| Status::Memory),
+        Ok(args) => words_of(rt.alloc(), args),
         Err(error) if error.kind() == ErrorKind::OutOfMemory => Err(Status::Memory),
         Err(_) => Err(Status::Words),
     }
 }
 
+/// The text of the settings, which is empty so far.
+fn settings() -> &'static [u8]
+    ensures { result.now ≡ [] }
+{
+    &[]
+}
+
 /// Runs the command that the words say, over standard input and output.
-fn run_words(rt: &HostRuntime, alloc: Global, words: &[String]) -> Status {
+fn run_words(rt: &HostRuntime, alloc: Global, words: &[String]) -> Status
+    ensures words { result ≡ Status.Words → IsReplay (map string_bytes words.now) → ⊥ }
+    ensures settings { result ≢ Status.Settings }
+{
     let Ok(mut site) = SureSite::new(alloc, 0) else {
         return Status::Memory;
     };
     let mut source = StdinSource::new(rt.stdin());
     let mut sink = StdoutSink::new(rt.stdout());
-    run(alloc, words, &[], &mut source, &mut sink, &mut site)
+    run(alloc, words, settings(), &mut source, &mut sink, &mut site)
 }
 
-/// What is said of a status, with its number.
+/// What is said of a status on standard error, with its number.
 #[derive(Clone, Copy)]
-struct Told(Status);
+struct StatusLine(Status);
 
-impl fmt::Display for Told {
+impl fmt::Display for StatusLine {
     fn fmt<W: fmt::Write>(&self, f: &mut fmt::Formatter<W>) -> fmt::Result {
         let number = self.0.number();
         write!(f, "bluesky: status {number}")
@@ -64,12 +96,19 @@ impl fmt::Display for Told {
 }
 
 /// Says a status on standard error, unless all went well.
-fn tell(rt: &impl Eprint, status: Status) -> io::Result<()> {
+fn report(rt: &impl Eprint, status: Status) -> io::Result<()> {
     if status == Status::Done {
         Ok(())
     } else {
-        eprintln!(rt; "{}", Told(status))
+        eprintln!(rt; "{}", StatusLine(status))
     }
+}
+
+/// What the process exits with: the status's number.
+fn exit_code(status: Status) -> ExitCode
+    ensures { exit_status result ≡ number_of status }
+{
+    ExitCode::from(status.number() as u8)
 }
 
 fn main(rt: HostRuntime) -> ExitCode {
@@ -77,6 +116,6 @@ fn main(rt: HostRuntime) -> ExitCode {
         Ok(words) => run_words(&rt, rt.alloc(), &words),
         Err(status) => status,
     };
-    let _ = tell(&rt, status);
-    ExitCode::from(status.number() as u8)
+    let _ = report(&rt, status);
+    exit_code(status)
 }

@@ -1,12 +1,13 @@
 //! Standard input and output as a source and a sink.
 
-ghost use Rattle.std.specs.Prelude.{◌≤◌, ◌<◌, None, length, take, IfOk, IsErr};
+ghost use Rattle.std.specs.Prelude.{◌≡◌, ◌≤◌, ◌<◌, None, length, take, IfOk, IsErr};
 ghost use Rattle.sky_outside.specs.Count.{Counts};
 ghost use Rattle.std.specs.Io.KnownBytes.{ReadConsumes, Appends};
 
 use sky_outside::{Failed, Sink, Source};
 use std::io;
 use std::io::{Read, Write};
+use std::marker::Model;
 
 /// Standard input, or another reader. It tells nothing of its bytes.
 #[derive(Drop)]
@@ -15,9 +16,20 @@ pub struct StdinSource<R> {
     faults: u64,
 }
 
+impl<R> Model for StdinSource<R> {
+    ghost use Rattle.bluesky.specs.Adapter.{Adapter};
+
+    ghost Value = { Adapter R };
+
+    ghost view = { λ s. record { device = s.reader; faults = s.faults } };
+}
+
 impl<R: Read> StdinSource<R> {
-    /// The source of a reader's bytes.
-    pub fn new(reader: R) -> StdinSource<R> {
+    /// The source of a reader's bytes, which has not failed yet.
+    pub fn new(reader: R) -> StdinSource<R>
+        ensures reader { result.device ≡ reader }
+        ensures faults { result.faults ≡ 0 }
+    {
         StdinSource { reader, faults: 0 }
     }
 }
@@ -31,7 +43,7 @@ impl<R: Read> Source for StdinSource<R> {
         ensures within { IfOk result (λ n. n ≤ length buf.old) }
         ensures cause { Counts self.old.faults self.new.faults (IsErr result) }
         // As the reader reads: what it gave is what is handed on, and no byte only at its end.
-        ensures reads { ReadConsumes (R.remaining self.old.reader) (R.remaining self.new.reader) result buf.new }
+        ensures reads { ReadConsumes (R.remaining self.old.device) (R.remaining self.new.device) result buf.new }
     {
         match self.reader.read(buf) {
             Ok(count) => Ok(count),
@@ -51,9 +63,20 @@ pub struct StdoutSink<W> {
     faults: u64,
 }
 
+impl<W> Model for StdoutSink<W> {
+    ghost use Rattle.bluesky.specs.Adapter.{Adapter};
+
+    ghost Value = { Adapter W };
+
+    ghost view = { λ s. record { device = s.writer; faults = s.faults } };
+}
+
 impl<W: Write> StdoutSink<W> {
-    /// The sink into a writer.
-    pub fn new(writer: W) -> StdoutSink<W> {
+    /// The sink into a writer, which has not failed yet.
+    pub fn new(writer: W) -> StdoutSink<W>
+        ensures writer { result.device ≡ writer }
+        ensures faults { result.faults ≡ 0 }
+    {
         StdoutSink { writer, faults: 0 }
     }
 }
@@ -78,7 +101,7 @@ impl<W: Write> Sink for StdoutSink<W> {
         ensures some { 0 < length bytes.now → IfOk result (λ n. 0 < n) }
         ensures cause { Counts self.old.faults self.new.faults (IsErr result) }
         // As the writer writes: what it took is what was handed to it.
-        ensures appends { IfOk result (λ count. Appends (W.contents self.old.writer) (W.contents self.new.writer) (take count bytes.now)) }
+        ensures appends { IfOk result (λ count. Appends (W.contents self.old.device) (W.contents self.new.device) (take count bytes.now)) }
     {
         match write_through(&mut self.writer, bytes) {
             Ok(count) if count > 0 || bytes.is_empty() => Ok(count),

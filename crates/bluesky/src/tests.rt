@@ -1,257 +1,278 @@
-ghost use Rattle.std.specs.Prelude.{◌≡◌};
-
 use super::*;
 use sky_memory::{MemSink, MemSource};
 use sky_outside::{Failed, Source};
 use std::process::Abort;
 use std::test::Fail;
 
-/// A recording of one NULL call in session 0, and what is answered.
-const NULL_CALL: [u8; 79] = [
-    b'S', b'K', b'Y', b'R', b'E', b'C', b'1', b'\n', // the magic
-    1, 0, 0, 0, 0, 0, 0, 0, 0, // session 0 begins
-    2, 0, 0, 0, 0, 0, 0, 0, 44, // its next 44 bytes
+/// A frame: its kind, its session and its payload.
+type Parts<'a> = (u8, u32, &'a [u8]);
+
+/// The record of a NULL call of the number 1 (RFC 1813, section 3.3.0).
+const NULL: [u8; 44] = [
     0x80, 0, 0, 40, 0, 0, 0, 1, 0, 0, 0, 0, 0, 0, 0, 2, 0, 1, 0x86, 0xa3, 0, 0, 0, 3, 0, 0, 0, 0,
-    0, 0, 0, 0, 0, 0, 0, 0, 0, 0, 0, 0, 0, 0, 0, 0, //
-    99, 0, 0, 0, 0, 0, 0, 0, 0, // the end
+    0, 0, 0, 0, 0, 0, 0, 0, 0, 0, 0, 0, 0, 0, 0, 0,
 ];
 
-const NULL_ANSWER: [u8; 95] = [
-    b'S', b'K', b'Y', b'R', b'E', b'C', b'1', b'\n', // the magic
-    19, 0, 0, 0, 0, 0, 0, 0, 20, 0, 0, 0, 0, 0, 0, 0, 1, 0, 0, 0, 0, 0, 0, 0, 0, 0, 0, 0, 0, //
-    2, 0, 0, 0, 0, 0, 0, 0, 28, // 28 bytes to session 0
-    0x80, 0, 0, 24, 0, 0, 0, 1, 0, 0, 0, 1, 0, 0, 0, 0, 0, 0, 0, 0, 0, 0, 0, 0, 0, 0, 0, 0, //
-    99, 0, 0, 0, 0, 0, 0, 0, 12, 0, 0, 0, 0, 0, 0, 0, 0, 0, 0, 0, 0, // the end
+/// The record of the reply to it.
+const REPLY: [u8; 28] = [
+    0x80, 0, 0, 24, 0, 0, 0, 1, 0, 0, 0, 1, 0, 0, 0, 0, 0, 0, 0, 0, 0, 0, 0, 0, 0, 0, 0, 0,
 ];
 
-fn words_of(alloc: Global, words: &[&str]) -> Result<Vec<String>, Fail> {
-    let mut all = Vec::new(alloc);
-    for word in words {
-        all.push(String::from_str(alloc, word)?)?;
+/// What the frame of the opening carries.
+const OPENING: [u8; 20] = [0, 0, 0, 0, 0, 0, 0, 1, 0, 0, 0, 0, 0, 0, 0, 0, 0, 0, 0, 0];
+
+fn words_of_texts(alloc: Global, texts: &[&str]) -> Result<Vec<String>, Fail> {
+    let mut words = Vec::new(alloc);
+    for text in texts {
+        words.push(String::from_str(alloc, text)?)?;
     }
-    Ok(all)
+    Ok(words)
 }
 
-/// Replays an input, where the calls of these numbers fail, and hands back the sink.
+fn put_frame(bytes: &mut Vec<u8>, frame: Parts<'_>) -> Result<(), Fail> {
+    let (kind, session, payload) = frame;
+    let length = u32::try_from(payload.len()).map_err(|_| "too long")?;
+    bytes.push(kind)?;
+    bytes.extend_from_slice(&session.to_be_bytes())?;
+    bytes.extend_from_slice(&length.to_be_bytes())?;
+    bytes.extend_from_slice(payload)?;
+    Ok(())
+}
+
+/// The magic, and these frames.
+fn recording(alloc: Global, frames: &[Parts<'_>]) -> Result<Vec<u8>, Fail> {
+    let mut bytes = Vec::from_slice(alloc, b"SKYREC1\n")?;
+    for frame in frames {
+        put_frame(&mut bytes, *frame)?;
+    }
+    Ok(bytes)
+}
+
+/// What is written with these answers: the magic, the opening, the answers, and this status at this
+/// place.
+fn written(alloc: Global, answers: &[Parts<'_>], status: u8, place: u8) -> Result<Vec<u8>, Fail> {
+    let mut bytes = Vec::from_slice(alloc, b"SKYREC1\n")?;
+    put_frame(&mut bytes, (19, 0, &OPENING))?;
+    for answer in answers {
+        put_frame(&mut bytes, *answer)?;
+    }
+    put_frame(
+        &mut bytes,
+        (99, 0, &[0, 0, 0, status, 0, 0, 0, 0, 0, 0, 0, place]),
+    )?;
+    Ok(bytes)
+}
+
+fn source_of(alloc: Global, bytes: &[u8], fail: &[u64]) -> Result<MemSource, Fail> {
+    Ok(MemSource::new(
+        Vec::from_slice(alloc, bytes)?,
+        Vec::from_slice(alloc, fail)?,
+    ))
+}
+
+/// Replays a source into a sink whose calls of these numbers fail, and hands the sink back.
 fn replay<S: Source>(
     alloc: Global,
     source: &mut S,
-    fail_writes: &[u64],
+    fail: &[u64],
 ) -> Result<(Status, MemSink), Fail> {
-    let words = words_of(alloc, &["replay", "--journal", "j", "--cloud", "c"])?;
-    let fail = Vec::from_slice(alloc, fail_writes)?;
+    let words = words_of_texts(alloc, &["replay", "--journal", "j", "--cloud", "c"])?;
+    let fail = Vec::from_slice(alloc, fail)?;
     let mut sink = MemSink::new(alloc, 1000, fail).map_err(|_| "no memory")?;
     let mut site = SureSite::new(alloc, 0).map_err(|_| "no memory")?;
     let status = run(alloc, &words, &[], source, &mut sink, &mut site);
     Ok((status, sink))
 }
 
-fn source_of(alloc: Global, bytes: &[u8], fail_reads: &[u64]) -> Result<MemSource, Fail> {
-    Ok(MemSource::new(
-        Vec::from_slice(alloc, bytes)?,
-        Vec::from_slice(alloc, fail_reads)?,
-    ))
-}
-
-#[test]
-fn a_null_call_is_answered(rt: HostRuntime) -> Result<(), Fail> {
-    let alloc = rt.alloc();
-    let mut source = source_of(alloc, &NULL_CALL, &[])?;
+/// That these frames and the end are answered so.
+fn answers(
+    rt: &impl Abort,
+    alloc: Global,
+    frames: &[Parts<'_>],
+    wanted: &[Parts<'_>],
+) -> Result<(), Fail> {
+    let mut bytes = recording(alloc, frames)?;
+    put_frame(&mut bytes, (99, 0, &[]))?;
+    let mut source = source_of(alloc, &bytes, &[])?;
     let (status, sink) = replay(alloc, &mut source, &[])?;
-    assert_eq!(rt; status, Status::Done);
-    assert_eq!(rt; sink.bytes(), NULL_ANSWER.as_slice());
+    assert_eq!(rt; status, Status::Done, "of {frames:?}");
+    let written = written(alloc, wanted, 0, 0)?;
+    assert_eq!(rt; sink.bytes(), written.as_slice(), "of {frames:?}");
     Ok(())
 }
 
-/// How a recording of these bytes ends.
-fn ends(
+#[test]
+fn sessions_are_answered(rt: HostRuntime) -> Result<(), Fail> {
+    let alloc = rt.alloc();
+    let whole = NULL.as_slice();
+    let reply = REPLY.as_slice();
+    answers(&rt, alloc, &[(1, 0, &[]), (2, 0, whole)], &[(2, 0, reply)])?;
+    answers(
+        &rt,
+        alloc,
+        &[(1, 255, &[]), (2, 255, whole)],
+        &[(2, 255, reply)],
+    )?;
+    // Before it begins, a session is passed over, and so is its end.
+    answers(&rt, alloc, &[(2, 0, whole), (3, 0, &[])], &[])?;
+    answers(
+        &rt,
+        alloc,
+        &[(3, 0, &[]), (1, 0, &[]), (2, 0, whole)],
+        &[(2, 0, reply)],
+    )?;
+    // A session that begins again has an empty stream.
+    answers(
+        &rt,
+        alloc,
+        &[
+            (1, 0, &[]),
+            (2, 0, &whole[..20]),
+            (1, 0, &[]),
+            (2, 0, whole),
+        ],
+        &[(2, 0, reply)],
+    )?;
+    // Once it has ended, it is passed over until it begins again.
+    answers(
+        &rt,
+        alloc,
+        &[
+            (1, 0, &[]),
+            (3, 0, &[]),
+            (2, 0, whole),
+            (1, 0, &[]),
+            (2, 0, whole),
+        ],
+        &[(2, 0, reply)],
+    )?;
+    // So is one that the proxy closed: by a record that is no call, and by one that is too long.
+    for record in [&[0x80, 0, 0, 0], &[0x80, 2, 0, 1]] {
+        let record = record.as_slice();
+        answers(
+            &rt,
+            alloc,
+            &[(1, 7, &[]), (2, 7, record), (2, 7, whole), (3, 7, &[])],
+            &[(3, 7, &[])],
+        )?;
+        answers(
+            &rt,
+            alloc,
+            &[(1, 7, &[]), (2, 7, record), (1, 7, &[]), (2, 7, whole)],
+            &[(3, 7, &[]), (2, 7, reply)],
+        )?;
+    }
+    // A moment has no answer.
+    let moment = [0, 0, 0, 7, 0x3b, 0x9a, 0xc9, 0xff];
+    answers(&rt, alloc, &[(4, 0, &moment)], &[])
+}
+
+/// A NULL call in which one byte differs, and the words of the reply to it behind its number.
+fn refused(
     rt: &impl Abort,
     alloc: Global,
-    bytes: &[u8],
-    status: Status,
-    count: usize,
+    at: usize,
+    byte: u8,
+    words: [u8; 5],
 ) -> Result<(), Fail> {
+    let mut record = Vec::from_slice(alloc, &NULL)?;
+    if let Some(place) = record.get_mut(at) {
+        *place = byte;
+    }
+    let mut reply = Vec::from_slice(alloc, &REPLY[..8])?;
+    for word in words {
+        reply.extend_from_slice(&[0, 0, 0, word])?;
+    }
+    answers(
+        rt,
+        alloc,
+        &[(1, 0, &[]), (2, 0, &record)],
+        &[(2, 0, &reply)],
+    )
+}
+
+#[test]
+fn calls_are_refused(rt: HostRuntime) -> Result<(), Fail> {
+    let alloc = rt.alloc();
+    // Version 3 of RPC, the program 100000, version 4 of NFS, and the procedure 22.
+    refused(&rt, alloc, 15, 3, [1, 1, 0, 2, 2])?;
+    refused(&rt, alloc, 19, 0xa0, [1, 0, 0, 0, 1])?;
+    refused(&rt, alloc, 27, 22, [1, 0, 0, 0, 3])
+}
+
+/// One byte a frame, alternating between two sessions.
+#[test]
+fn streams_are_cut_anywhere(rt: HostRuntime) -> Result<(), Fail> {
+    let alloc = rt.alloc();
+    let mut bytes = recording(alloc, &[(1, 0, &[]), (1, 1, &[])])?;
+    for byte in &NULL {
+        put_frame(&mut bytes, (2, 0, &[*byte]))?;
+        put_frame(&mut bytes, (2, 1, &[*byte]))?;
+    }
+    put_frame(&mut bytes, (99, 0, &[]))?;
+    let mut source = source_of(alloc, &bytes, &[])?;
+    let (status, sink) = replay(alloc, &mut source, &[])?;
+    assert_eq!(rt; status, Status::Done);
+    let wanted = written(alloc, &[(2, 0, &REPLY), (2, 1, &REPLY)], 0, 0)?;
+    assert_eq!(rt; sink.bytes(), wanted.as_slice());
+    // 32,768 fragments without a byte, none the last, before the call.
+    let mut stream = vec![in alloc; 0; 131072]?;
+    stream.extend_from_slice(&NULL)?;
+    answers(
+        &rt,
+        alloc,
+        &[(1, 0, &[]), (2, 0, &stream)],
+        &[(2, 0, &REPLY)],
+    )
+}
+
+/// How a recording of these bytes ends. Without answers, 58 bytes are written.
+fn ends(rt: &impl Abort, alloc: Global, bytes: &[u8], status: Status) -> Result<(), Fail> {
     let mut source = source_of(alloc, bytes, &[])?;
     let (ended, sink) = replay(alloc, &mut source, &[])?;
     assert_eq!(rt; ended, status, "of {bytes:?}");
-    assert_eq!(rt; sink.bytes().len(), count, "of {bytes:?}");
+    assert_eq!(rt; sink.bytes().len(), 58, "of {bytes:?}");
     Ok(())
 }
 
 #[test]
-fn short_recordings(rt: HostRuntime) -> Result<(), Fail> {
+fn recordings_end(rt: HostRuntime) -> Result<(), Fail> {
     let alloc = rt.alloc();
-    let end = [99, 0, 0, 0, 0, 0, 0, 0, 0];
-    let mut whole = Vec::from_slice(alloc, b"SKYREC1\n")?;
-    whole.extend_from_slice(&end)?;
-    ends(&rt, alloc, &whole, Status::Done, 58)?;
+    let at_first = Status::Malformed { at: 8 };
+    ends(&rt, alloc, &[], Status::Early)?;
+    ends(&rt, alloc, b"SKYREC1", Status::Early)?;
+    ends(&rt, alloc, b"TKYREC1\n", Status::Malformed { at: 0 })?;
+    ends(&rt, alloc, b"SKYREC1\n\x63\0\0\0\0\0\0\0", Status::Early)?;
+    ends(&rt, alloc, b"SKYREC1\n\x63\0\0\0\0\0\0\0\0", Status::Done)?;
     // The end is read, and what follows it isn't.
-    whole.extend_from_slice(&[77])?;
-    ends(&rt, alloc, &whole, Status::Done, 58)?;
-    ends(&rt, alloc, &[], Status::Early, 58)?;
-    ends(&rt, alloc, b"SKYREC1", Status::Early, 58)?;
-    ends(&rt, alloc, b"SKYREC2\n", Status::Malformed { at: 0 }, 58)?;
+    ends(&rt, alloc, b"SKYREC1\n\x63\0\0\0\0\0\0\0\0M", Status::Done)?;
+    ends(&rt, alloc, b"SKYREC1\n\x4d\0\0\0\0\0\0\0\0", at_first)?;
+    // Session 256, a frame of 2^20 + 1 bytes, and 10^9 nanoseconds.
+    ends(&rt, alloc, b"SKYREC1\n\x01\0\0\x01\0\0\0\0\0", at_first)?;
+    ends(&rt, alloc, b"SKYREC1\n\x02\0\0\0\0\0\x10\0\x01", at_first)?;
     ends(
         &rt,
         alloc,
-        b"SKYREC1\nM\0\0\0\0\0\0\0\0",
-        Status::Malformed { at: 8 },
-        58,
-    )?;
-    // A session that there isn't, and a length that there can't be.
-    ends(
-        &rt,
-        alloc,
-        b"SKYREC1\n\x01\0\0\0\x01\0\0\0\0",
-        Status::Malformed { at: 8 },
-        58,
-    )?;
-    ends(
-        &rt,
-        alloc,
-        b"SKYREC1\n\x02\0\0\0\0\0\x10\0\x01",
-        Status::Malformed { at: 8 },
-        58,
-    )?;
-    // Before its session begins, a frame is passed over, whatever it holds.
-    ends(
-        &rt,
-        alloc,
-        b"SKYREC1\n\x02\0\0\0\0\0\0\0\x01M",
-        Status::Early,
-        58,
-    )?;
-    ends(
-        &rt,
-        alloc,
-        b"SKYREC1\n\x01\0\0\0\0\0\0\0\0\x02\0\0\0\0\0\0\0\x01M",
-        Status::Malformed { at: 17 },
-        58,
+        b"SKYREC1\n\x04\0\0\0\0\0\0\0\x08\0\0\0\0\x3b\x9a\xca\0",
+        at_first,
     )?;
     ends(
         &rt,
         alloc,
         b"SKYREC1\n\x01\0\0\0\0\0\0\0\0\x02\0\0\0\0\0\0\0\x02M",
         Status::Early,
-        58,
-    )
-}
-
-/// A record in which one byte differs from a NULL call's is no call that is answered.
-#[test]
-fn other_calls_are_malformed(rt: HostRuntime) -> Result<(), Fail> {
-    let alloc = rt.alloc();
-    for at in [26, 29, 37, 41, 45, 49, 53, 57, 61, 65, 69] {
-        let mut bytes = Vec::from_slice(alloc, &NULL_CALL)?;
-        if let Some(byte) = bytes.get_mut(at) {
-            *byte ^= 1;
-        }
-        ends(&rt, alloc, &bytes, Status::Malformed { at: 17 }, 58)?;
-    }
+    )?;
+    ends(
+        &rt,
+        alloc,
+        b"SKYREC1\n\x01\0\0\0\0\0\0\0\0M\0\0\0\0\0\0\0\0",
+        Status::Malformed { at: 17 },
+    )?;
+    each_recording_has_one_reading();
     Ok(())
 }
 
-/// A recording of one GETATTR call of the root in session 0, and what is answered.
-const GETATTR_CALL: [u8; 99] = [
-    b'S', b'K', b'Y', b'R', b'E', b'C', b'1', b'\n', // the magic
-    1, 0, 0, 0, 0, 0, 0, 0, 0, // session 0 begins
-    2, 0, 0, 0, 0, 0, 0, 0, 64, // its next 64 bytes
-    0x80, 0, 0, 60, 0, 0, 0, 2, 0, 0, 0, 0, 0, 0, 0, 2, 0, 1, 0x86, 0xa3, 0, 0, 0, 3, 0, 0, 0, 1,
-    0, 0, 0, 0, 0, 0, 0, 0, 0, 0, 0, 0, 0, 0, 0, 0, //
-    0, 0, 0, 16, 0, 0, 0, 0, 0, 0, 0, 1, 0, 0, 0, 0, 0, 0, 0, 1, // the handle
-    99, 0, 0, 0, 0, 0, 0, 0, 0, // the end
-];
-
-const GETATTR_ANSWER: [u8; 183] = [
-    b'S', b'K', b'Y', b'R', b'E', b'C', b'1', b'\n', // the magic
-    19, 0, 0, 0, 0, 0, 0, 0, 20, 0, 0, 0, 0, 0, 0, 0, 1, 0, 0, 0, 0, 0, 0, 0, 0, 0, 0, 0, 0, //
-    2, 0, 0, 0, 0, 0, 0, 0, 116, // 116 bytes to session 0
-    0x80, 0, 0, 0x70, 0, 0, 0, 2, 0, 0, 0, 1, 0, 0, 0, 0, 0, 0, 0, 0, 0, 0, 0, 0, 0, 0, 0, 0, //
-    0, 0, 0, 0, 0, 0, 0, 2, 0, 0, 1, 0xff, 0, 0, 0, 2, 0, 0, 0, 0, 0, 0, 0, 0, // OK, to gid
-    0, 0, 0, 0, 0, 0, 0, 0, 0, 0, 0, 0, 0, 0, 0, 0, 0, 0, 0, 0, 0, 0, 0, 0, // size, used, rdev
-    0, 0, 0, 0, 0, 0, 0, 1, 0, 0, 0, 0, 0, 0, 0, 1, // fsid, fileid
-    0, 0, 0, 0, 0, 0, 0, 0, 0, 0, 0, 0, 0, 0, 0, 0, 0, 0, 0, 0, 0, 0, 0, 0, // times
-    99, 0, 0, 0, 0, 0, 0, 0, 12, 0, 0, 0, 0, 0, 0, 0, 0, 0, 0, 0, 0, // the end
-];
-
-#[test]
-fn the_root_has_attributes(rt: HostRuntime) -> Result<(), Fail> {
-    let alloc = rt.alloc();
-    let mut source = source_of(alloc, &GETATTR_CALL, &[])?;
-    let (status, sink) = replay(alloc, &mut source, &[])?;
-    assert_eq!(rt; status, Status::Done);
-    assert_eq!(rt; sink.bytes(), GETATTR_ANSWER.as_slice());
-    Ok(())
-}
-
-/// A recording of one GETATTR call with these arguments, at most 80 bytes.
-fn getattr_of(alloc: Global, args: &[u8]) -> Result<Vec<u8>, Fail> {
-    let count = args.len().min(80) as u8;
-    let mut bytes = Vec::from_slice(alloc, &GETATTR_CALL[..70])?;
-    bytes.extend_from_slice(args)?;
-    bytes.extend_from_slice(&GETATTR_CALL[90..])?;
-    for (at, length) in [(25, 44 + count), (29, 40 + count)] {
-        if let Some(byte) = bytes.get_mut(at) {
-            *byte = length;
-        }
-    }
-    Ok(bytes)
-}
-
-/// That GETATTR with these arguments is refused by this status.
-fn is_refused(rt: &impl Abort, alloc: Global, args: &[u8], status: [u8; 4]) -> Result<(), Fail> {
-    let bytes = getattr_of(alloc, args)?;
-    let mut source = source_of(alloc, &bytes, &[])?;
-    let (ended, sink) = replay(alloc, &mut source, &[])?;
-    assert_eq!(rt; ended, Status::Done, "of {args:?}");
-    let mut want = Vec::from_slice(alloc, &GETATTR_ANSWER[..37])?;
-    want.extend_from_slice(&[2, 0, 0, 0, 0, 0, 0, 0, 32, 0x80, 0, 0, 0x1c])?;
-    want.extend_from_slice(&GETATTR_ANSWER[50..74])?;
-    want.extend_from_slice(&status)?;
-    want.extend_from_slice(&GETATTR_ANSWER[162..])?;
-    assert_eq!(rt; sink.bytes(), want.as_slice(), "of {args:?}");
-    Ok(())
-}
-
-#[test]
-fn handles_that_name_nothing_are_refused(rt: HostRuntime) -> Result<(), Fail> {
-    let alloc = rt.alloc();
-    let bad = [0, 0, 0x27, 0x11];
-    let stale = [0, 0, 0, 0x46];
-    let root = &GETATTR_CALL[70..90];
-    // Of 15 bytes, whatever the padding holds; of none; of another volume.
-    let mut short = Vec::from_slice(alloc, root)?;
-    if let Some(byte) = short.get_mut(3) {
-        *byte = 15;
-    }
-    is_refused(&rt, alloc, &short, bad)?;
-    is_refused(&rt, alloc, &[0, 0, 0, 0], bad)?;
-    let mut other = Vec::from_slice(alloc, root)?;
-    if let Some(byte) = other.get_mut(11) {
-        *byte = 2;
-    }
-    is_refused(&rt, alloc, &other, bad)?;
-    // No such node.
-    let mut gone = Vec::from_slice(alloc, root)?;
-    if let Some(byte) = gone.get_mut(19) {
-        *byte = 9;
-    }
-    is_refused(&rt, alloc, &gone, stale)?;
-    // The longest handle; one byte more is no handle, nor is one with a word behind it.
-    let mut long = Vec::from_slice(alloc, &[0, 0, 0, 64])?;
-    long.extend_from_slice(&[1; 64])?;
-    is_refused(&rt, alloc, &long, bad)?;
-    let mut longer = Vec::from_slice(alloc, &[0, 0, 0, 65])?;
-    longer.extend_from_slice(&[1; 68])?;
-    let malformed = Status::Malformed { at: 17 };
-    ends(&rt, alloc, &getattr_of(alloc, &longer)?, malformed, 58)?;
-    let mut behind = Vec::from_slice(alloc, root)?;
-    behind.extend_from_slice(&[0; 4])?;
-    ends(&rt, alloc, &getattr_of(alloc, &behind)?, malformed, 58)?;
-    ends(&rt, alloc, &getattr_of(alloc, &root[..16])?, malformed, 58)
-}
-
-/// That a run whose source or sink fails at its nth call ends so, and wrote a front of the good run's
+/// That a run whose source or sink fails at its nth call ends so, and wrote a prefix of the good run's
 /// bytes, with this many bytes behind it.
 fn fails(
     rt: &impl Abort,
@@ -261,15 +282,17 @@ fn fails(
     status: Status,
     behind: usize,
 ) -> Result<(), Fail> {
-    let mut source = source_of(alloc, &GETATTR_CALL, reads)?;
+    let bytes = recording(alloc, &[(1, 0, &[]), (2, 0, &NULL), (99, 0, &[])])?;
+    let whole = written(alloc, &[(2, 0, &REPLY)], 0, 0)?;
+    let mut source = source_of(alloc, &bytes, reads)?;
     let (ended, sink) = replay(alloc, &mut source, writes)?;
     assert_eq!(rt; ended, status, "at {reads:?} {writes:?}");
-    let front = sink.bytes().len().saturating_sub(behind);
+    let prefix = sink.bytes().len().saturating_sub(behind);
     assert!(rt;
-        GETATTR_ANSWER.starts_with(&sink.bytes()[..front]),
+        whole.starts_with(&sink.bytes()[..prefix]),
         "at {reads:?} {writes:?}"
     );
-    assert!(rt; front < GETATTR_ANSWER.len(), "at {reads:?} {writes:?}");
+    assert!(rt; prefix < whole.len(), "at {reads:?} {writes:?}");
     Ok(())
 }
 
@@ -305,25 +328,27 @@ impl Source for Trickle {
 #[test]
 fn bytes_come_one_at_a_time(rt: HostRuntime) -> Result<(), Fail> {
     let alloc = rt.alloc();
+    let bytes = recording(alloc, &[(1, 0, &[]), (2, 0, &NULL), (99, 0, &[])])?;
     let mut source = Trickle {
-        source: source_of(alloc, &GETATTR_CALL, &[])?,
+        source: source_of(alloc, &bytes, &[])?,
     };
     let (status, sink) = replay(alloc, &mut source, &[])?;
     assert_eq!(rt; status, Status::Done);
-    assert_eq!(rt; sink.bytes(), GETATTR_ANSWER.as_slice());
+    let wanted = written(alloc, &[(2, 0, &REPLY)], 0, 0)?;
+    assert_eq!(rt; sink.bytes(), wanted.as_slice());
     Ok(())
 }
 
 /// That a run with these words and settings is refused, and writes nothing.
-fn refused(
+fn not_begun(
     rt: &impl Abort,
     alloc: Global,
     words: &[&str],
     settings: &[u8],
     status: Status,
 ) -> Result<(), Fail> {
-    let words = words_of(alloc, words)?;
-    let mut source = source_of(alloc, &NULL_CALL, &[])?;
+    let words = words_of_texts(alloc, words)?;
+    let mut source = source_of(alloc, b"SKYREC1\n", &[])?;
     let mut sink = MemSink::new(alloc, 1000, Vec::new(alloc)).map_err(|_| "no memory")?;
     let mut site = SureSite::new(alloc, 0).map_err(|_| "no memory")?;
     let ended = run(alloc, &words, settings, &mut source, &mut sink, &mut site);
@@ -336,49 +361,25 @@ fn refused(
 fn other_words_and_settings_are_refused(rt: HostRuntime) -> Result<(), Fail> {
     let alloc = rt.alloc();
     let good = ["replay", "--journal", "j", "--cloud", "c"];
-    refused(&rt, alloc, &good, b"volume = 0", Status::Settings)?;
-    refused(&rt, alloc, &[], &[], Status::Words)?;
-    refused(&rt, alloc, &good[..4], b"volume = 0", Status::Words)?;
-    refused(
-        &rt,
-        alloc,
-        &["replay", "--cloud", "c", "--journal", "j"],
-        &[],
-        Status::Words,
-    )?;
-    refused(
-        &rt,
-        alloc,
-        &["replay", "--journal", "", "--cloud", "c"],
-        &[],
-        Status::Words,
-    )?;
-    refused(
-        &rt,
-        alloc,
-        &["replay", "--journal", "j", "--cloud", "-c"],
-        &[],
-        Status::Words,
-    )?;
-    refused(
-        &rt,
-        alloc,
-        &["Replay", "--journal", "j", "--cloud", "c"],
-        &[],
-        Status::Words,
-    )?;
-    refused(
-        &rt,
-        alloc,
-        &["replay", "--journal", "j", "--cloud", "c", "x"],
-        &[],
-        Status::Words,
-    )
+    not_begun(&rt, alloc, &good, b"volume = 0", Status::Settings)?;
+    not_begun(&rt, alloc, &good[..4], b"volume = 0", Status::Words)?;
+    let words = Status::Words;
+    let turned = ["replay", "--cloud", "c", "--journal", "j"];
+    let empty = ["replay", "--journal", "", "--cloud", "c"];
+    let dashed = ["replay", "--journal", "j", "--cloud", "-c"];
+    let capital = ["Replay", "--journal", "j", "--cloud", "c"];
+    let more = ["replay", "--journal", "j", "--cloud", "c", "x"];
+    not_begun(&rt, alloc, &[], &[], words)?;
+    not_begun(&rt, alloc, &turned, &[], words)?;
+    not_begun(&rt, alloc, &empty, &[], words)?;
+    not_begun(&rt, alloc, &dashed, &[], words)?;
+    not_begun(&rt, alloc, &capital, &[], words)?;
+    not_begun(&rt, alloc, &more, &[], words)
 }
 
 #[test]
 fn a_status_is_told_by_its_number(rt: HostRuntime) -> Result<(), Fail> {
-    let told = Told(Status::Malformed { at: 8 }).to_string(rt.alloc())?;
-    assert_eq!(rt; told.as_str(), "bluesky: status 2");
+    let line = StatusLine(Status::Malformed { at: 8 }).to_string(rt.alloc())?;
+    assert_eq!(rt; line.as_str(), "bluesky: status 2");
     Ok(())
 }

@@ -1,7 +1,7 @@
 //! The words of the command line.
 
 ghost use Rattle.std.specs.Prelude.{◌≡◌, ◌↔◌, IsTrue, map, string_bytes};
-ghost use Rattle.bluesky.specs.Run.{IsValue, IsReplay};
+ghost use Rattle.bluesky.specs.Words.{IsValue, IsReplay};
 
 /// Whether a word may be the value of an option: it isn't empty, and doesn't look like an option.
 fn is_value(word: &str) -> bool

@@ -1,0 +1,225 @@
+-- A recording has one reading, and the status of a run is that of the reading.
+use Rattle.std.proofs.Common.{◌≡◌, ◌+◌, ◌<◌, ◌≤◌, ◌≢◌, inl, inr, ℕ, Option, Some, None, List, [], ◌∷◌, ◌++◌, length, refl, sym, ap, subst, ◌∙◌, append_assoc, arith}
+use Rattle.std.proofs.lemmas.List.{append_cancel_left, append-nil, length-append}
+use Rattle.sky_base.specs.declared.status.Status.{Status}
+use Rattle.sky_base.specs.declared.status.Status.TheVariants.{Done, Words, Malformed, Early, SourceFault, SinkFault, Memory, Long, Settings}
+use Rattle.sky_outside.specs.Told.{WhereTold}
+use Rattle.sky_script.specs.Frame.{InFrame, OutFrame, End, in_frame, in_frames, magic}
+use Rattle.sky_script.specs.Beginning.{IsRefused, IsCutShort}
+use Rattle.sky_script.proofs.FrameLaws.{prefixes_same}
+use Rattle.sky_script.proofs.Beginnings.{frame_not_refused, frame_not_cut, refused_not_cut, refused_same}
+use Rattle.sky_world.specs.Meaning.{State, start}
+use Rattle.bluesky.specs.Run.{frame_limit, Handled, recording, SourceUse, Took, TookRefused, other_magic, no_frame, TookPart, within_magic, within_frame, AreFew, ReadTo, SinkUse, Ran, IsReading, IsFree, IsExact, IsReplayed}
+use Rattle.bluesky.proofs.Comparing.{GoesOn, Compares, are_one, first_on, second_on, compared, end_not_on, refused_not_on, cut_not_on}
+
+-- ---- the bytes of a recording
+
+-- what was taken, of bytes that are told
+pub taken_is : (bytes rest taken : List ℕ) → Took (record { had = Some bytes; left = Some rest }) taken → bytes ≡ taken ++ rest
+taken_is bytes rest taken took = cc
+
+-- behind the magic
+behind_magic : (frames : List InFrame) (next rest : List ℕ) → recording frames next ++ rest ≡ magic ++ (in_frames frames ++ (next ++ rest))
+behind_magic frames next rest =
+    append_assoc (magic ++ in_frames frames) next rest ∙ append_assoc magic (in_frames frames) (next ++ rest)
+
+-- what begins with the magic has its eight bytes, and no others in their place
+magic_whole : (bytes more : List ℕ) → bytes ≡ magic ++ more → 8 ≤ length bytes
+magic_whole bytes more e = rw e (omega arith)
+
+not_other : (bytes more taken rest : List ℕ) → bytes ≡ magic ++ more → bytes ≡ taken ++ rest → length taken ≡ 8 → taken ≢ magic → ⊥
+not_other bytes more taken rest e d long other = other (sym (prefixes_same magic taken more rest (sym long) (sym e ∙ d)).0)
+
+-- ---- where a reading stops
+
+-- where a reading stops behind the magic, by the status that says so, and what it leaves of what stood there
+data StopsAt (frames : List InFrame) (left rest : List ℕ) (status : Status) : Type 0 where
+  at_end : AreFew frames → left ≡ in_frame End ++ rest → status ≡ Done → StopsAt frames left rest status
+  at_refused : AreFew frames → (taken : List ℕ) → IsRefused taken → left ≡ taken ++ rest → status ≡ Malformed (8 + length (in_frames frames)) → StopsAt frames left rest status
+  at_cut : AreFew frames → IsCutShort left → rest ≡ [] → status ≡ Early → StopsAt frames left rest status
+  at_limit : length frames ≡ frame_limit → left ≡ rest → status ≡ Long → StopsAt frames left rest status
+
+-- where a reading stops: within the magic, at another magic, or behind the magic
+data StopsIn (bytes : List ℕ) (frames : List InFrame) (rest : List ℕ) (status : Status) : Type 0 where
+  in_magic : length bytes < 8 → frames ≡ [] → rest ≡ [] → status ≡ Early → StopsIn bytes frames rest status
+  no_magic : (taken : List ℕ) → length taken ≡ 8 → taken ≢ magic → bytes ≡ taken ++ rest → frames ≡ [] → status ≡ Malformed 0 → StopsIn bytes frames rest status
+  behind : (left : List ℕ) → bytes ≡ magic ++ (in_frames frames ++ left) → StopsAt frames left rest status → StopsIn bytes frames rest status
+
+abbrev told : List ℕ → List ℕ → SourceUse
+told bytes rest = record { had = Some bytes; left = Some rest }
+
+-- what is behind the frames of a recording
+left_is : (bytes rest : List ℕ) (frames : List InFrame) (next : List ℕ) → Took (told bytes rest) (recording frames next) → bytes ≡ magic ++ (in_frames frames ++ (next ++ rest))
+left_is bytes rest frames next took = taken_is bytes rest (recording frames next) took ∙ behind_magic frames next rest
+
+stops_refused : (at : ℕ) (bytes : List ℕ) (frames : List InFrame) (rest : List ℕ) → AreFew frames → TookRefused (told bytes rest) frames at → StopsIn bytes frames rest (Malformed at)
+stops_refused at bytes frames rest few (other_magic taken none zero long other took) = no_magic taken long other (taken_is bytes rest taken took) none (ap Malformed zero)
+stops_refused at bytes frames rest few (no_frame taken place refused took) =
+    behind (taken ++ rest) (left_is bytes rest frames taken took) (at_refused few taken refused refl (ap Malformed place))
+
+stops_early : (bytes : List ℕ) (frames : List InFrame) (rest : List ℕ) → AreFew frames → TookPart (told bytes rest) frames → rest ≡ [] → StopsIn bytes frames rest Early
+stops_early bytes frames rest few (within_magic taken none short took) empty =
+    in_magic (omega (arith, ap length (taken_is bytes rest taken took), length-append taken rest, ap length empty)) none empty refl
+stops_early bytes frames rest few (within_frame taken cut took) empty =
+    let whole : taken ++ rest ≡ taken = ap (λ (x : List ℕ). taken ++ x) empty ∙ append-nil taken in
+    behind (taken ++ rest) (left_is bytes rest frames taken took) (at_cut few (subst IsCutShort (sym whole) cut) empty refl)
+
+-- where a recording that is read to a status stops
+stops_in : (status : Status) (bytes : List ℕ) (frames : List InFrame) (rest : List ℕ) → ReadTo status (told bytes rest) frames → StopsIn bytes frames rest status
+stops_in Done bytes frames rest read = behind (in_frame End ++ rest) (left_is bytes rest frames (in_frame End) read.1) (at_end read.0 refl refl)
+stops_in (Malformed at) bytes frames rest read = stops_refused at bytes frames rest read.0 read.1
+stops_in Early bytes frames rest read = stops_early bytes frames rest read.0 read.1 read.2
+stops_in Long bytes frames rest read = behind rest (left_is bytes rest frames [] read.1) (at_limit read.0 refl refl)
+stops_in Words bytes frames rest read = absurd read
+stops_in SourceFault bytes frames rest read = absurd read
+stops_in SinkFault bytes frames rest read = absurd read
+stops_in Memory bytes frames rest read = absurd read
+stops_in Settings bytes frames rest read = absurd read
+
+-- ---- two ways to stop
+
+-- where a reading stops within the limit, none goes on
+stop_not_on : (frames : List InFrame) (s : State) (left rest : List ℕ) (status : Status) → AreFew frames → StopsAt frames left rest status → GoesOn s left → ⊥
+stop_not_on frames s left rest status less (at_end few end is) on = end_not_on s left rest end on
+stop_not_on frames s left rest status less (at_refused few taken refused parts is) on = refused_not_on s left taken rest refused parts on
+stop_not_on frames s left rest status less (at_cut few cut empty is) on = cut_not_on s left cut on
+stop_not_on frames s left rest status less (at_limit all same is) on = absurd (omega arith)
+
+-- a reading that stops has no more frames than the limit
+at_most : (frames : List InFrame) (left rest : List ℕ) (status : Status) → StopsAt frames left rest status → length frames ≤ frame_limit
+at_most frames left rest status (at_end few end is) = omega arith
+at_most frames left rest status (at_refused few taken refused parts is) = omega arith
+at_most frames left rest status (at_cut few cut empty is) = omega arith
+at_most frames left rest status (at_limit all same is) = omega arith
+
+-- one place has one status, and leaves one rest
+stop_same : (frames : List InFrame) (left r q : List ℕ) (a b : Status) → StopsAt frames left r a → StopsAt frames left q b → (a ≡ b) × (r ≡ q)
+stop_same frames left r q a b (at_end few end is) (at_end few' end' is') = (is ∙ sym is', append_cancel_left (in_frame End) r q (sym end ∙ end'))
+stop_same frames left r q a b (at_end few end is) (at_refused few' taken refused parts is') = absurd (frame_not_refused End left taken r q tt end refused parts)
+stop_same frames left r q a b (at_end few end is) (at_cut few' cut empty is') = absurd (frame_not_cut End left r tt end cut)
+stop_same frames left r q a b (at_end few end is) (at_limit all same is') = absurd (omega arith)
+stop_same frames left r q a b (at_refused few taken refused parts is) (at_end few' end is') = absurd (frame_not_refused End left taken q r tt end refused parts)
+stop_same frames left r q a b (at_refused few taken refused parts is) (at_refused few' taken' refused' parts' is') =
+    (is ∙ sym is', (refused_same left taken taken' r q refused refused' parts parts').1)
+stop_same frames left r q a b (at_refused few taken refused parts is) (at_cut few' cut empty is') = absurd (refused_not_cut left taken r refused parts cut)
+stop_same frames left r q a b (at_refused few taken refused parts is) (at_limit all same is') = absurd (omega arith)
+stop_same frames left r q a b (at_cut few cut empty is) (at_end few' end is') = absurd (frame_not_cut End left q tt end cut)
+stop_same frames left r q a b (at_cut few cut empty is) (at_refused few' taken refused parts is') = absurd (refused_not_cut left taken q refused parts cut)
+stop_same frames left r q a b (at_cut few cut empty is) (at_cut few' cut' empty' is') = (is ∙ sym is', empty ∙ sym empty')
+stop_same frames left r q a b (at_cut few cut empty is) (at_limit all same is') = absurd (omega arith)
+stop_same frames left r q a b (at_limit all same is) (at_end few end is') = absurd (omega arith)
+stop_same frames left r q a b (at_limit all same is) (at_refused few taken refused parts is') = absurd (omega arith)
+stop_same frames left r q a b (at_limit all same is) (at_cut few cut empty is') = absurd (omega arith)
+stop_same frames left r q a b (at_limit all same is) (at_limit all' same' is') = (is ∙ sym is', sym same ∙ same')
+
+-- ---- two readings
+
+-- two readings are one, and so are their statuses, and what they leave
+record AreSame (fs gs : List InFrame) (os ps : List OutFrame) (s t : State) (a b : Status) (r q : List ℕ) : Type 0 where
+  frames : fs ≡ gs
+  outs : os ≡ ps
+  state : s ≡ t
+  status : a ≡ b
+  rest : r ≡ q
+
+-- nothing was handled
+handled_none : (fs : List InFrame) (os : List OutFrame) (s : State) → Handled fs os s → fs ≡ [] → (os ≡ []) × (s ≡ start)
+handled_none [] os s handled none = handled.steps
+handled_none (f ∷ fs) os s handled none = absurd cc
+
+-- two readings of nothing
+both_none : (fs gs : List InFrame) (os ps : List OutFrame) (s t : State) (a b : Status) (r q : List ℕ) → Handled fs os s → Handled gs ps t → fs ≡ [] → gs ≡ []
+    → a ≡ b → r ≡ q → AreSame fs gs os ps s t a b r q
+both_none fs gs os ps s t a b r q h k none none' same rest =
+    let x = handled_none fs os s h none in
+    let y = handled_none gs ps t k none' in
+    record { frames = none ∙ sym none'; outs = x.0 ∙ sym y.0; state = x.1 ∙ sym y.1; status = same; rest = rest }
+
+-- two readings behind the magic, side by side
+side_by_side : (bytes : List ℕ) (fs gs : List InFrame) (os ps : List OutFrame) (s t : State) (r q : List ℕ) → Handled fs os s → Handled gs ps t
+    → bytes ≡ magic ++ (in_frames fs ++ r) → bytes ≡ magic ++ (in_frames gs ++ q) → Compares fs gs os ps s t r q
+side_by_side bytes fs gs os ps s t r q h k e d =
+    compared start fs gs os ps s t r q h.formed k.formed h.steps k.steps (append_cancel_left magic (in_frames fs ++ r) (in_frames gs ++ q) (sym e ∙ d))
+
+-- those behind the magic
+same_behind : (fs gs : List InFrame) (os ps : List OutFrame) (s t : State) (l m r q : List ℕ) (a b : Status) → Compares fs gs os ps s t l m
+    → StopsAt fs l r a → StopsAt gs m q b → AreSame fs gs os ps s t a b r q
+same_behind fs gs os ps s t l m r q a b (are_one is) x y =
+    let moved : StopsAt fs l q b = subst (λ (v : List InFrame). StopsAt v l q b) (sym is.frames) (subst (λ (v : List ℕ). StopsAt gs v q b) (sym is.rest) y) in
+    let same = stop_same fs l r q a b x moved in
+    record { frames = is.frames; outs = is.outs; state = is.state; status = same.0; rest = same.1 }
+same_behind fs gs os ps s t l m r q a b (first_on less on) x y = absurd (stop_not_on gs t m q b (omega (arith, less, at_most fs l r a x)) y on)
+same_behind fs gs os ps s t l m r q a b (second_on less on) x y = absurd (stop_not_on fs s l r a (omega (arith, less, at_most gs m q b y)) x on)
+
+-- those of a whole recording
+same_in : (bytes : List ℕ) (fs gs : List InFrame) (os ps : List OutFrame) (s t : State) (a b : Status) (r q : List ℕ) → Handled fs os s → Handled gs ps t
+    → StopsIn bytes fs r a → StopsIn bytes gs q b → AreSame fs gs os ps s t a b r q
+same_in bytes fs gs os ps s t a b r q h k (in_magic short none empty is) (in_magic short' none' empty' is') =
+    both_none fs gs os ps s t a b r q h k none none' (is ∙ sym is') (empty ∙ sym empty')
+same_in bytes fs gs os ps s t a b r q h k (in_magic short none empty is) (no_magic taken long other parts none' is') =
+    absurd (omega (arith, ap length parts, length-append taken q))
+same_in bytes fs gs os ps s t a b r q h k (in_magic short none empty is) (behind m d y) = absurd (omega (arith, magic_whole bytes (in_frames gs ++ m) d))
+same_in bytes fs gs os ps s t a b r q h k (no_magic taken long other parts none is) (in_magic short none' empty is') =
+    absurd (omega (arith, ap length parts, length-append taken r))
+same_in bytes fs gs os ps s t a b r q h k (no_magic taken long other parts none is) (no_magic taken' long' other' parts' none' is') =
+    let same = prefixes_same taken taken' r q (long ∙ sym long') (sym parts ∙ parts') in
+    both_none fs gs os ps s t a b r q h k none none' (is ∙ sym is') same.1
+same_in bytes fs gs os ps s t a b r q h k (no_magic taken long other parts none is) (behind m d y) = absurd (not_other bytes (in_frames gs ++ m) taken r d parts long other)
+same_in bytes fs gs os ps s t a b r q h k (behind l e x) (in_magic short none empty is) = absurd (omega (arith, magic_whole bytes (in_frames fs ++ l) e))
+same_in bytes fs gs os ps s t a b r q h k (behind l e x) (no_magic taken long other parts none is) = absurd (not_other bytes (in_frames fs ++ l) taken q e parts long other)
+same_in bytes fs gs os ps s t a b r q h k (behind l e x) (behind m d y) =
+    same_behind fs gs os ps s t l m r q a b (side_by_side bytes fs gs os ps s t l m h k e d) x y
+
+-- two readings of one list of bytes are one
+readings_same : (bytes : List ℕ) (fs gs : List InFrame) (os ps : List OutFrame) (s t : State) (a b : Status) (r q : List ℕ)
+    → IsReading bytes fs os s a r → IsReading bytes gs ps t b q → AreSame fs gs os ps s t a b r q
+readings_same bytes fs gs os ps s t a b r q x y =
+    same_in bytes fs gs os ps s t a b r q x.handled y.handled (stops_in a bytes fs r x.read) (stops_in b bytes gs q y.read)
+
+-- no two readings of a recording differ
+pub one_reading : (bytes : List ℕ) (fs gs : List InFrame) (os ps : List OutFrame) (s t : State) (a b : Status) (r q : List ℕ)
+    → IsReading bytes fs os s a r → IsReading bytes gs ps t b q → (fs ≡ gs) × (os ≡ ps) × (s ≡ t) × (a ≡ b) × (r ≡ q)
+one_reading bytes fs gs os ps s t a b r q x y =
+    let is = readings_same bytes fs gs os ps s t a b r q x y in
+    (is.frames, is.outs, is.state, is.status, is.rest)
+
+-- ---- the status of a run
+
+-- the status of a reading is that of each reading
+exact_reading : (status : Status) (bytes : List ℕ) (frames : List InFrame) (answers : List OutFrame) (last : State) (rest : List ℕ)
+    → IsReading bytes frames answers last status rest → IsExact status bytes
+exact_reading status bytes frames answers last rest reading gs ps t expected q other =
+    inl (readings_same bytes frames gs answers ps last t status expected rest q reading other).status
+
+-- a source that was read to where the bytes say that it stops
+read_exact : (status : Status) (bytes : List ℕ) (left : Option (List ℕ)) (frames : List InFrame) (answers : List OutFrame) (last : State) → Handled frames answers last
+    → ReadTo status (record { had = Some bytes; left = left }) frames → IsExact status bytes
+read_exact status bytes (Some rest) frames answers last handled read = exact_reading status bytes frames answers last rest (record { handled = handled; read = read })
+read_exact Done bytes None frames answers last handled read = absurd (let took = read.1 in cc)
+read_exact (Malformed at) bytes None frames answers last handled (few, other_magic taken none zero long other took) = absurd cc
+read_exact (Malformed at) bytes None frames answers last handled (few, no_frame taken place refused took) = absurd cc
+read_exact Early bytes None frames answers last handled (few, within_magic taken none short took, empty) = absurd cc
+read_exact Early bytes None frames answers last handled (few, within_frame taken cut took, empty) = absurd cc
+read_exact Long bytes None frames answers last handled read = absurd (let took = read.1 in cc)
+read_exact Words bytes None frames answers last handled read = absurd read
+read_exact SourceFault bytes None frames answers last handled read = absurd read
+read_exact SinkFault bytes None frames answers last handled read = absurd read
+read_exact Memory bytes None frames answers last handled read = absurd read
+read_exact Settings bytes None frames answers last handled read = absurd read
+
+-- a status that blames a device, or the memory, is never wrong
+exact_free : (status : Status) (bytes : List ℕ) → IsFree status → IsExact status bytes
+exact_free status bytes free frames answers last expected rest reading = inr free
+
+-- the status of a run that began is exact
+pub ran_exact : (status : Status) (had left : Option (List ℕ)) (sink : SinkUse) → Ran status (record { had = had; left = left }) sink → IsReplayed status → WhereTold had (λ bytes. IsExact status bytes)
+ran_exact status None left sink ran began = tt
+ran_exact Done (Some bytes) left sink ran began = read_exact Done bytes left ran.frames ran.answers ran.last ran.handled ran.ends.0
+ran_exact (Malformed at) (Some bytes) left sink ran began = read_exact (Malformed at) bytes left ran.frames ran.answers ran.last ran.handled ran.ends.0
+ran_exact Early (Some bytes) left sink ran began = read_exact Early bytes left ran.frames ran.answers ran.last ran.handled ran.ends.0
+ran_exact Long (Some bytes) left sink ran began = read_exact Long bytes left ran.frames ran.answers ran.last ran.handled ran.ends.0
+ran_exact SourceFault (Some bytes) left sink ran began = exact_free SourceFault bytes tt
+ran_exact SinkFault (Some bytes) left sink ran began = exact_free SinkFault bytes tt
+ran_exact Memory (Some bytes) left sink ran began = exact_free Memory bytes tt
+ran_exact Words (Some bytes) left sink ran began = absurd began
+ran_exact Settings (Some bytes) left sink ran began = absurd began
