@@ -37,6 +37,7 @@ without_none name (e ∷ es) h =
 pub record IsThere (name : List ℕ) (items : List (ℕ × Item)) (cookie : ℕ) : Type 0 where
   pub entry : Entry
   pub is : find (has_name name) (map item_entry items) ≡ Some entry
+  pub stands_at : entry.cookie ≡ cookie
   pub fileid : option_map (λ v. v.fileid) (lookup (is_at (nat_cmp cookie)) items) ≡ option_map (λ (e : Entry). e.fileid) (find (has_name name) (map item_entry items))
   pub without : map item_entry (remove_entry (is_at (nat_cmp cookie)) items) ≡ without_name (map item_entry items) name
 
@@ -46,7 +47,7 @@ there_from_index items index next kept name cookie h =
     let f : IsFound name items e.0 = found_item name items next e.0 kept.ascends e.1 in
     let g : (option_map (λ (v : Item). v.fileid) (lookup (is_at (nat_cmp cookie)) items) ≡ Some e.0.fileid) × (map item_entry (remove_entry (is_at (nat_cmp cookie)) items) ≡ without_name (map item_entry items) name) =
     subst (λ k. (option_map (λ (v : Item). v.fileid) (lookup (is_at (nat_cmp k)) items) ≡ Some e.0.fileid) × (map item_entry (remove_entry (is_at (nat_cmp k)) items) ≡ without_name (map item_entry items) name)) e.2 f in
-    record { entry = e.0; is = e.1; fileid = g.0 ∙ sym (ap (option_map (λ (d : Entry). d.fileid)) e.1); without = g.1 }
+    record { entry = e.0; is = e.1; stands_at = e.2; fileid = g.0 ∙ sym (ap (option_map (λ (d : Entry). d.fileid)) e.1); without = g.1 }
 
 -- where it has none, no entry has the name
 pub none_from_index : (items : List (ℕ × Item)) (index : BTreeMap (Vec ℕ Global) ℕ) (next : ℕ) → IsKept items index next → (name : List ℕ) → None ≡ cookie_at index name

@@ -4,3 +4,4 @@ pub mod KeptLemmas
 pub mod KeptSteps
 pub mod SizeLemmas
 pub mod CommandLemmas
+pub mod ReplaceLemmas

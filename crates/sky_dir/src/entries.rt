@@ -1,7 +1,7 @@
 //! The entries of a directory.
 
 ghost use Rattle.std.specs.Prelude.{◌≡◌, ◌^◌, ◌<◌, ◌≤◌, ◌↔◌, [], Err, IfNone, IfOk, IfSome, IsTrue, None, OnErr, OnOk, filter, length, nat_lt, sum_by};
-ghost use Rattle.sky_base.specs.Limits.{max_cookie};
+ghost use Rattle.sky_base.specs.Limits.{max_cookie, max_directory_bytes};
 ghost use Rattle.sky_base.specs.Listing.{fileid_at, new_listing, size_of_listing, size_of_name, with_entry, without_entry};
 ghost use Rattle.sky_dir.specs.Rows.{is_crowded, listing_of_rows};
 
@@ -18,11 +18,12 @@ use std::marker::Model;
 ///
 /// Where cookies and names are as the calls leave them, the entries are kept by two maps, one from cookies
 /// and one from names: each cookie is below all behind it and below the next one, and no name stands twice.
-/// So each name is held twice. `find`, `add` and `drop_name` take time in the logarithm of the number of
-/// entries, and so does the first entry of a `page`.
+/// So each name is held twice. `find`, `add`, `replace` and `drop_name` take time in the logarithm of the
+/// number of entries, and so does the first entry of a `page`.
 ///
-/// A list that `of` is given in another state is kept as it came: `find`, `drop_name` and `page` go over it,
-/// and `drop_name` moves what stands behind the entry. `add` puts the entry at its end.
+/// A list that `of` is given in another state is kept as it came: `find`, `replace`, `drop_name` and `page` go
+/// over it, and `replace` and `drop_name` move what stands behind the entry that goes. `add` puts the entry at
+/// its end.
 ///
 /// `len`, `size`, `next_cookie` and `is_crowded` go over nothing.
 #[derive(Drop)]
@@ -113,6 +114,16 @@ impl Entries {
         self.size
     }
 
+    /// The bytes of the entries without the first one of a name.
+    pub fn size_without(&self, name: &[u8]) -> u64
+        ensures { result ≡ size_of_listing (without_entry self.now name.now) }
+    {
+        match self.kind.find(name) {
+            Some(_) => self.size - ENTRY_OVERHEAD - name.len() as u64,
+            None => self.size,
+        }
+    }
+
     /// The cookie of the entry that is added next.
     pub fn next_cookie(&self) -> u64
         ensures { result ≡ self.now.next_cookie }
@@ -169,6 +180,26 @@ impl Entries {
             }
             None => None,
         }
+    }
+
+    /// The first entry of the name goes where there is one, and one of the name and this fileid comes behind
+    /// all others. It takes the next cookie, so that a page that goes on behind the old entry shows it.
+    ///
+    /// The directory may pass `MAX` by the new entry, as it does for a moment where an entry gets another
+    /// name and its old one goes after.
+    ///
+    /// `NoMemory` where there is no memory for the new entry. All is as it was then.
+    pub fn replace(&mut self, name: Name, fileid: u64) -> Result<(), NoMemory>
+        requires cookie { self.old.next_cookie < max_cookie }
+        requires size { size_of_listing self.old ≤ max_directory_bytes }
+        ensures replaced { OnOk result (self.new ≡ with_entry (without_entry self.old name) name fileid) }
+        ensures err { OnErr result (self.new ≡ self.old) }
+    {
+        let more = ENTRY_OVERHEAD + name.as_bytes().len() as u64;
+        let size = self.size_without(name.as_bytes()) + more;
+        self.kind.replace(name, fileid)?;
+        self.size = size;
+        Ok(())
     }
 
     /// The entries with a cookie greater than `after`, in order.

@@ -147,13 +147,7 @@ impl Indexed {
         ensures err { OnErr result (self.new ≡ self.old) }
     {
         let cookie = self.next;
-        let key = Vec::from_slice(self.alloc, name.as_bytes())?;
-        self.items.insert(cookie, Item { name, fileid })?;
-        let Ok(_) = self.index.insert(key, cookie) else {
-            self.items.remove(&cookie);
-            return Err(NoMemory);
-        };
-        self.next = cookie + 1;
+        self.replace(name, fileid)?;
         Ok(cookie)
     }
 
@@ -166,6 +160,27 @@ impl Indexed {
             Some(cookie) => self.items.remove(&cookie).map(|item| item.fileid),
             None => None,
         }
+    }
+
+    /// The first entry of the name goes where there is one, and one of the name and this fileid goes last.
+    /// `NoMemory` leaves all as it was.
+    pub fn replace(&mut self, name: Name, fileid: u64) -> Result<(), NoMemory>
+        requires { self.old.next_cookie < max_cookie }
+        ensures replaced { OnOk result (self.new ≡ with_entry (without_entry self.old name) name fileid) }
+        ensures err { OnErr result (self.new ≡ self.old) }
+    {
+        let cookie = self.next;
+        let key = Vec::from_slice(self.alloc, name.as_bytes())?;
+        self.items.insert(cookie, Item { name, fileid })?;
+        let Ok(old) = self.index.insert(key, cookie) else {
+            self.items.remove(&cookie);
+            return Err(NoMemory);
+        };
+        if let Some(old) = old {
+            self.items.remove(&old);
+        }
+        self.next = cookie + 1;
+        Ok(())
     }
 
     /// The entries that have a greater cookie.

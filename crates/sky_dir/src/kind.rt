@@ -90,6 +90,19 @@ impl Kind {
         }
     }
 
+    /// The first entry of the name goes where there is one, and one of the name and this fileid goes last.
+    /// `NoMemory` leaves all as it was.
+    pub fn replace(&mut self, name: Name, fileid: u64) -> Result<(), NoMemory>
+        requires { (listing_in self.old).next_cookie < max_cookie }
+        ensures replaced { OnOk result (listing_in self.new ≡ with_entry (without_entry (listing_in self.old) name) name fileid) }
+        ensures err { OnErr result (listing_in self.new ≡ listing_in self.old) }
+    {
+        match self {
+            Kind::Indexed(directory) => directory.replace(name, fileid),
+            Kind::Plain(directory) => directory.replace(name, fileid),
+        }
+    }
+
     /// The entries that have a greater cookie.
     pub fn page(&self, after: u64) -> PageIter<'_>
         ensures entries { result ≡ filter (λ e. nat_lt after e.cookie) (listing_in self.now).entries }

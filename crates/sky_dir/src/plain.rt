@@ -101,6 +101,22 @@ impl Plain {
         }
     }
 
+    /// The first entry of the name goes where there is one, and one of the name and this fileid goes last.
+    /// `NoMemory` leaves all as it was.
+    pub fn replace(&mut self, name: Name, fileid: u64) -> Result<(), NoMemory>
+        requires { self.old.next_cookie < max_cookie }
+        ensures replaced { OnOk result (self.new ≡ with_entry (without_entry self.old name) name fileid) }
+        ensures err { OnErr result (self.new ≡ self.old) }
+    {
+        let old = place_of(self.rows.as_slice(), name.as_bytes());
+        self.rows.push((self.next, name, fileid))?;
+        if let Some(place) = old {
+            self.rows.remove(place);
+        }
+        self.next += 1;
+        Ok(())
+    }
+
     /// The entries that have a greater cookie.
     pub fn page(&self, after: u64) -> PageIter<'_>
         ensures entries { result ≡ filter (λ e. nat_lt after e.cookie) self.now.entries }

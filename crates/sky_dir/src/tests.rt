@@ -27,6 +27,20 @@ fn add(
     Ok(entries.add(name, fileid))
 }
 
+/// Puts an entry in the place of the first one of its name.
+fn replace(
+    rt: &impl Abort,
+    alloc: Global,
+    entries: &mut Entries,
+    bytes: &[u8],
+    fileid: u64,
+) -> Result<(), Fail> {
+    assert!(rt; entries.next_cookie() < Entries::MAX_COOKIE);
+    assert!(rt; entries.size() <= Entries::MAX);
+    entries.replace(name(rt, alloc, bytes)?, fileid)?;
+    Ok(())
+}
+
 /// What a page shows, as its contract lets a caller say: the cookies, and for each the fileid.
 fn shown(alloc: Global, entries: &Entries, after: u64) -> Result<Vec<(u64, u64)>, Fail>
     ensures { IfOk result (λ list. list.items ≡ map (λ e. (e.cookie, e.fileid)) (filter (λ e. nat_lt after e.cookie) entries.now.entries)) }
@@ -85,6 +99,29 @@ fn a_list_in_any_state_is_kept(rt: HostRuntime) -> Result<(), Fail> {
         shown(alloc, &entries, 0)?.as_slice(),
         [(4, 2), (9, 3), (5, 7)].as_slice()
     );
+    Ok(())
+}
+
+#[test]
+fn what_replaces_an_entry_stands_last(rt: HostRuntime) -> Result<(), Fail> {
+    let alloc = rt.alloc();
+    for next in [7, 5] {
+        // The cookies that stand are below 7, and so are kept by maps; they pass 5.
+        let mut list = Vec::new(alloc);
+        for (cookie, bytes, fileid) in [(4, b"x", 10), (5, b"y", 11), (6, b"z", 12)] {
+            list.push((cookie, name(&rt, alloc, bytes)?, fileid))?;
+        }
+        let mut entries = Entries::of(alloc, list, next)?;
+        replace(&rt, alloc, &mut entries, b"y", 13)?;
+        replace(&rt, alloc, &mut entries, b"new", 14)?;
+        assert_eq!(rt; entries.find(b"y"), Some(13));
+        assert_eq!(rt; entries.find(b"new"), Some(14));
+        assert_eq!(rt; entries.size(), 78);
+        assert_eq!(rt;
+            shown(alloc, &entries, 0)?.as_slice(),
+            [(4, 10), (6, 12), (next, 13), (next + 1, 14)].as_slice()
+        );
+    }
     Ok(())
 }
 
