@@ -1,2 +1,4 @@
 pub mod WritingLemmas
 pub mod MapLemmas
+pub mod EditLemmas
+pub mod MoveLemmas

@@ -44,7 +44,7 @@ less-lt : (a b : ℕ) → nat_cmp a b ≡ Less → a < b
 less-lt a b h = grind (arith, nat_tests)
 
 -- a key that is found is above those that all keys are above
-found-above : (low k : ℕ) (ns : List (ℕ × Node)) → AllByRecursion (λ y. nat_cmp low y ≡ Less) (keys_of ns) → IsSome (lookup (is_at (nat_cmp k)) ns) → low < k
+pub found-above : (low k : ℕ) (ns : List (ℕ × Node)) → AllByRecursion (λ y. nat_cmp low y ≡ Less) (keys_of ns) → IsSome (lookup (is_at (nat_cmp k)) ns) → low < k
 found-above low k [] above there = absurd (cc)
 found-above low k (n ∷ ns) above there = go (cases_Bool (n.0 == k)) (found-above low k ns above.1)
   where

@@ -1,7 +1,8 @@
 //! Changes of one node among the others.
 
-ghost use Rattle.std.specs.Prelude.{◌≡◌, ◌+◌, ◌^◌, ◌<◌, IsSome, OnErr, OnOk, None, Some, false, length};
-ghost use Rattle.sky_base.specs.Listing.{fileid_at};
+ghost use Rattle.std.specs.Prelude.{◌≡◌, ◌+◌, ◌^◌, ◌<◌, ◌≤◌, IsSome, OnErr, OnOk, None, Some, false, length};
+ghost use Rattle.sky_base.specs.Limits.{max_cookie, max_directory_bytes};
+ghost use Rattle.sky_base.specs.Listing.{fileid_at, size_of_listing};
 ghost use Rattle.sky_dir.specs.Rows.{is_crowded};
 ghost use Rattle.sky_nfs.specs.Changes.{add_link, drop_link, edit, enter, leave, stamp, with_parent, with_size};
 ghost use Rattle.sky_nfs.specs.Procedures.SetAttr.{set_node};
@@ -99,6 +100,29 @@ impl Nodes {
     {
         match self.get_mut(dir) {
             Some(node) => node.enter(now, name, fileid),
+            None => Ok(()),
+        }
+    }
+
+    /// In a directory the entry of a name goes where there is one, and one of the name and this fileid is added, from
+    /// now on. A cookie is left for it.
+    ///
+    /// `NoMemory` where there is no memory for it. All is as it was then.
+    pub fn replace(
+        &mut self,
+        dir: u64,
+        now: Moment,
+        name: Name,
+        fileid: u64,
+    ) -> Result<(), NoMemory>
+        requires there { IsSome (node_at self.old.nodes dir) }
+        requires cookie { (listing_of (the_node self.old dir)).next_cookie < max_cookie }
+        requires size { size_of_listing (listing_of (the_node self.old dir)) ≤ max_directory_bytes }
+        ensures replaced { OnOk result (self.new ≡ edit self.old dir (λ d. enter now name fileid (leave now name d))) }
+        ensures err { OnErr result (self.new ≡ self.old) }
+    {
+        match self.get_mut(dir) {
+            Some(node) => node.replace(now, name, fileid),
             None => Ok(()),
         }
     }

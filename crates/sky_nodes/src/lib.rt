@@ -4,6 +4,7 @@
 mod edits;
 mod entries;
 mod file_bytes;
+mod moves;
 mod node;
 mod nodes;
 

@@ -1,7 +1,8 @@
 //! A node of a file tree.
 
-ghost use Rattle.std.specs.Prelude.{◌≡◌, ◌+◌, ◌^◌, ◌<◌, OnErr, OnOk, None, Some, false, length, true};
-ghost use Rattle.sky_base.specs.Listing.{fileid_at};
+ghost use Rattle.std.specs.Prelude.{◌≡◌, ◌+◌, ◌^◌, ◌<◌, ◌≤◌, OnErr, OnOk, None, Some, false, length, nat_le, true};
+ghost use Rattle.sky_base.specs.Limits.{max_cookie, max_directory_bytes};
+ghost use Rattle.sky_base.specs.Listing.{fileid_at, size_of_listing, without_entry};
 ghost use Rattle.sky_dir.specs.Rows.{is_crowded};
 ghost use Rattle.sky_nfs.specs.Changes.{add_link, drop_link, enter, leave, new_node, set_time, stamp, with_attributes, with_parent, with_size};
 ghost use Rattle.sky_nfs.specs.Procedures.Remove.{has_entries};
@@ -219,6 +220,28 @@ impl Node {
         }
     }
 
+    /// The size of a directory without the entry of a name.
+    pub fn size_without(&self, name: &[u8]) -> u64
+        requires { is_directory self.now ≡ true }
+        ensures { result ≡ size_of_listing (without_entry (listing_of self.now) name.now) }
+    {
+        match &self.content {
+            Content::Directory(_, entries) => entries.size_without(name),
+            _ => 0,
+        }
+    }
+
+    /// Whether a directory has given out its last cookie.
+    pub fn is_out_of_cookies(&self) -> bool
+        requires { is_directory self.now ≡ true }
+        ensures { result ≡ nat_le max_cookie (listing_of self.now).next_cookie }
+    {
+        match &self.content {
+            Content::Directory(_, entries) => entries.next_cookie() >= Entries::MAX_COOKIE,
+            _ => false,
+        }
+    }
+
     /// Its attributes, as the node of this fileid in this volume.
     pub fn attributes(&self, volume: u64, fileid: u64) -> Attr
         ensures { result ≡ attributes_of volume fileid self.now }
@@ -355,6 +378,24 @@ impl Node {
             if entries.add(name, fileid).is_err() {
                 return Err(NoMemory);
             }
+        }
+        self.mtime = now;
+        self.ctime = now;
+        Ok(())
+    }
+
+    /// In a directory the entry of a name goes where there is one, and one of the name and this fileid is added, now.
+    /// A cookie is left for it.
+    ///
+    /// `NoMemory` where there is no memory for it. All is as it was then.
+    pub fn replace(&mut self, now: Moment, name: Name, fileid: u64) -> Result<(), NoMemory>
+        requires cookie { (listing_of self.old).next_cookie < max_cookie }
+        requires size { size_of_listing (listing_of self.old) ≤ max_directory_bytes }
+        ensures replaced { OnOk result (self.new ≡ enter now name fileid (leave now name self.old)) }
+        ensures err { OnErr result (self.new ≡ self.old) }
+    {
+        if let Content::Directory(_, entries) = &mut self.content {
+            entries.replace(name, fileid)?;
         }
         self.mtime = now;
         self.ctime = now;

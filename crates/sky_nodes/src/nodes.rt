@@ -3,6 +3,7 @@
 ghost use Rattle.std.specs.Prelude.{◌≡◌, ◌+◌, ◌^◌, ◌<◌, IfOk, OnErr, OnOk, length, option_copied};
 ghost use Rattle.std.specs.Borrow.{sem};
 ghost use Rattle.std.specs.Option.{option_copied_mut};
+ghost use Rattle.sky_nodes.specs.Ascending.{Ascends};
 ghost use Rattle.sky_nodes.specs.Lending.{LendsNode};
 ghost use Rattle.sky_nfs.specs.Changes.{erase, grow};
 ghost use Rattle.sky_nfs.specs.Tree.{empty_tree, node_at};
@@ -76,6 +77,13 @@ impl Nodes {
         ensures { option_copied result ≡ node_at self.now.nodes fileid }
     {
         self.nodes.get(&fileid)
+    }
+
+    /// The nodes stand in the order of their fileids. It does nothing: its contract is for callers' proofs.
+    pub(crate) fn fileids_ascend(&self)
+        ensures { Ascends self.now }
+    {
+        let _ = &self.nodes;
     }
 
     /// There is no node of this fileid any more.

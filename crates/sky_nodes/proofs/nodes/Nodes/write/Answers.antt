@@ -1,7 +1,6 @@
-use Rattle.std.proofs.Common.{◌≡◌, ◌∙◌, ap, sym, Some}
+use Rattle.std.proofs.Common.{◌∙◌, ap, sym, Some}
 use Rattle.std.proofs.lemmas.Result.{on_ok_weaker, on_err_weaker}
 use Rattle.sky_nfs.specs.Procedures.Write.{write_node}
-use Rattle.sky_nfs.specs.Tree.{Node}
 use Rattle.sky_nodes.proofs.MapLemmas.{put-edit}
 use Rattle.sky_nodes.proofs.nodes.Nodes.write.Goals as goal
 
