@@ -6,3 +6,14 @@ pub mod CreateLemmas
 pub mod SetLemmas
 pub mod ApplyLemmas
 pub mod LinkLemmas
+pub mod PageLemmas
+pub mod WayLemmas
+pub mod RenameLemmas
+pub mod MovedLemmas
+pub mod AttrLemmas
+pub mod PredictLemmas
+pub mod PredictSetLemmas
+pub mod PredictRemoveLemmas
+pub mod PredictMakeLemmas
+pub mod PredictCreateLemmas
+pub mod PredictRenameLemmas

@@ -88,7 +88,7 @@ sized : (es : List Entry) → 18 * length es ≤ sum_by (λ e. size_of_name e.na
 sized [] = omega arith
 sized (e ∷ es) = let rest = sized es in let sum : sum_by (λ (e : Entry). size_of_name e.name) (e ∷ es) ≡ size_of_name e.name + sum_by (λ (e : Entry). size_of_name e.name) es = sum_by-cons _ e es in omega arith
 
-size_within : (c : Content) → is_within c ≡ true → size_of_listing (directory_listing c) ≤ max_directory_bytes
+pub size_within : (c : Content) → is_within c ≡ true → size_of_listing (directory_listing c) ≤ max_directory_bytes
 size_within (File bytes) h = omega arith
 size_within (Directory parent listing) h = leb-true _ _ (and_parts _ _ (and_parts _ _ h).0).0
 size_within (Link text) h = omega arith

@@ -27,7 +27,7 @@ there_from None e = absurd (cc)
 there_from (Some a) e = refl
 
 -- a directory without entries has no name
-nameless : (l : Listing) (name : List ℕ) → not (length l.entries == 0) ≡ false → fileid_at l name ≡ None
+pub nameless : (l : Listing) (name : List ℕ) → not (length l.entries == 0) ≡ false → fileid_at l name ≡ None
 nameless l name h = go l.entries h
   where
     go : (es : List Entry) → not (length es == 0) ≡ false → option_map (λ (e : Entry). e.fileid) (find (λ (e : Entry). bytes_eq e.name name) es) ≡ None

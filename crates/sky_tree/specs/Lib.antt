@@ -1,4 +1,7 @@
 pub mod Creating
 pub mod Setting
-pub mod Offered
+pub mod Memory
 pub mod Linking
+pub mod Listing
+pub mod Renaming
+pub mod AttrChanges

@@ -44,7 +44,12 @@ fn check_new_object(
 
 /// The directory in which a MKDIR makes a directory, or why it is refused.
 #[tactic(auto, unfolding(sky_nfs::specs::Procedure::refusal_of, sky_nfs::specs::Procedure::rules_of))]
-fn check_mkdir(nodes: &Nodes, cred: &Cred, at: &DirOpArgs, set: &SetAttr) -> Result<u64, NfsStatus>
+pub fn check_mkdir(
+    nodes: &Nodes,
+    cred: &Cred,
+    at: &DirOpArgs,
+    set: &SetAttr,
+) -> Result<u64, NfsStatus>
     ensures refused { result_err result ≡ refusal_of nodes.now cred.now (Call.Mkdir at.now set.now) }
     ensures dir { IfOk result (λ dir. dir ≡ fileid_in at.now.directory) }
 {
@@ -57,7 +62,7 @@ fn check_mkdir(nodes: &Nodes, cred: &Cred, at: &DirOpArgs, set: &SetAttr) -> Res
 
 /// The directory in which a SYMLINK makes a link, or why it is refused.
 #[tactic(auto, unfolding(sky_nfs::specs::Procedure::refusal_of, sky_nfs::specs::Procedure::rules_of))]
-fn check_symlink(
+pub fn check_symlink(
     nodes: &Nodes,
     cred: &Cred,
     at: &DirOpArgs,

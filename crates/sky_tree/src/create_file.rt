@@ -35,7 +35,7 @@ const NOTHING_SET: SetAttr = SetAttr {
 };
 
 /// The attributes of a new file: an exclusive CREATE gives none.
-fn set_by(how: CreateHow) -> SetAttr
+pub fn set_by(how: CreateHow) -> SetAttr
     ensures { result ≡ set_by how }
 {
     match how {
@@ -45,7 +45,7 @@ fn set_by(how: CreateHow) -> SetAttr
 }
 
 /// The size that an unchecked CREATE sets.
-fn unchecked_size(how: CreateHow) -> Option<u64>
+pub fn unchecked_size(how: CreateHow) -> Option<u64>
     ensures { result ≡ unchecked_size how }
 {
     match how {
@@ -143,7 +143,7 @@ fn check_use(
 }
 
 /// The directory in which a CREATE makes or takes a file, or why it is refused.
-fn check_create(
+pub fn check_create(
     nodes: &Nodes,
     cred: &Cred,
     at: &DirOpArgs,

@@ -62,7 +62,7 @@ fn check_link_name(
 }
 
 /// The file and the directory of a LINK, or why it is refused.
-fn check_link(
+pub fn check_link(
     nodes: &Nodes,
     cred: &Cred,
     file: &RawHandle,

@@ -1,6 +1,6 @@
 //! READLINK, READ and COMMIT, RFC 1813 sections 3.3.5, 3.3.6 and 3.3.21.
 
-ghost use Rattle.std.specs.Prelude.{◌≡◌, ◌+◌, IfOk, IsSome, length, nat_le};
+ghost use Rattle.std.specs.Prelude.{◌≡◌, ◌+◌, IfOk, IsSome, OnErr, None, length, nat_le};
 ghost use Rattle.std.specs.Result.{result_err};
 ghost use Rattle.sky_nfs.specs.Handles.{fileid_in};
 ghost use Rattle.sky_nfs.specs.Procedure.{refusal_of};
@@ -49,7 +49,8 @@ pub fn readlink(
     nodes: &Nodes,
     link: &RawHandle,
 ) -> Result<Result<ReadLinkOk, Refused<Option<Attr>>>, NoMemory>
-    ensures { IfOk result (λ answer. answer ≡ results_or (first_of (readlink_rules nodes.now link.now)) (link_text_of nodes.now link.now) (post_attributes nodes.now link.now)) }
+    ensures answer { IfOk result (λ answer. answer ≡ results_or (first_of (readlink_rules nodes.now link.now)) (link_text_of nodes.now link.now) (post_attributes nodes.now link.now)) }
+    ensures memory { OnErr result (first_of (readlink_rules nodes.now link.now) ≡ None) }
 {
     let attributes = post_attributes(nodes, link);
     match link_of(nodes, link) {
@@ -116,7 +117,8 @@ pub fn read(
     offset: u64,
     count: u32,
 ) -> Result<Result<ReadOk, Refused<Option<Attr>>>, NoMemory>
-    ensures { IfOk result (λ answer. answer ≡ results_or (refusal_of nodes.now cred.now (Call.Read file.now offset count)) (read_data nodes.now file.now offset count) (post_attributes nodes.now file.now)) }
+    ensures answer { IfOk result (λ answer. answer ≡ results_or (refusal_of nodes.now cred.now (Call.Read file.now offset count)) (read_data nodes.now file.now offset count) (post_attributes nodes.now file.now)) }
+    ensures memory { OnErr result (refusal_of nodes.now cred.now (Call.Read file.now offset count) ≡ None) }
 {
     let attributes = post_attributes(nodes, file);
     match file_to_read(nodes, cred, file, offset, count) {

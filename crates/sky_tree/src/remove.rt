@@ -30,7 +30,7 @@ fn old_name(nodes: &Nodes, cred: &Cred, dir: u64, name: &[u8]) -> Result<u64, Nf
 
 /// The directory in which a REMOVE removes a name, or why it is refused.
 #[tactic(auto, unfolding(sky_nfs::specs::Procedure::refusal_of, sky_nfs::specs::Procedure::rules_of))]
-fn check_remove(nodes: &Nodes, cred: &Cred, at: &DirOpArgs) -> Result<u64, NfsStatus>
+pub fn check_remove(nodes: &Nodes, cred: &Cred, at: &DirOpArgs) -> Result<u64, NfsStatus>
     ensures refused { result_err result ≡ refusal_of nodes.now cred.now (Call.Remove at.now) }
     ensures dir { IfOk result (λ dir. dir ≡ fileid_in at.now.directory) }
 {
@@ -45,7 +45,7 @@ fn check_remove(nodes: &Nodes, cred: &Cred, at: &DirOpArgs) -> Result<u64, NfsSt
 
 /// The directory in which an RMDIR removes a name, or why it is refused.
 #[tactic(auto, unfolding(sky_nfs::specs::Procedure::refusal_of, sky_nfs::specs::Procedure::rules_of))]
-fn check_rmdir(nodes: &Nodes, cred: &Cred, at: &DirOpArgs) -> Result<u64, NfsStatus>
+pub fn check_rmdir(nodes: &Nodes, cred: &Cred, at: &DirOpArgs) -> Result<u64, NfsStatus>
     ensures refused { result_err result ≡ refusal_of nodes.now cred.now (Call.Rmdir at.now) }
     ensures dir { IfOk result (λ dir. dir ≡ fileid_in at.now.directory) }
 {
@@ -61,7 +61,7 @@ fn check_rmdir(nodes: &Nodes, cred: &Cred, at: &DirOpArgs) -> Result<u64, NfsSta
 }
 
 /// Whether a directory of this fileid has entries.
-fn has_entries(nodes: &Nodes, fileid: u64) -> bool
+pub fn has_entries(nodes: &Nodes, fileid: u64) -> bool
     ensures { result ≡ has_entries (the_node nodes.now fileid) }
 {
     nodes.get(fileid).is_some_and(|node| node.has_entries())

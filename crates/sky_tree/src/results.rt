@@ -1,6 +1,6 @@
 //! The attributes that answers carry.
 
-ghost use Rattle.std.specs.Prelude.{◌≡◌, IfOk, option_map};
+ghost use Rattle.std.specs.Prelude.{◌≡◌, IfOk, Some, option_map};
 ghost use Rattle.std.specs.Result.{result_err};
 ghost use Rattle.sky_nfs.specs.Handles.{fileid_in, handle_bytes};
 ghost use Rattle.sky_nfs.specs.Procedures.Create.{created};
@@ -51,6 +51,36 @@ pub fn pre_attributes(nodes: &Nodes, fh: &RawHandle) -> Option<WccAttr>
     ensures { result ≡ pre_attributes nodes.now fh.now }
 {
     post_attributes(nodes, fh).map(wcc_attr)
+}
+
+/// The attributes of the object that a handle names before a call, and these after it.
+pub fn wcc_after(nodes: &Nodes, fh: &RawHandle, after: Attr) -> WccData
+    ensures { result ≡ record { before = pre_attributes nodes.now fh.now; after = Some after } }
+{
+    WccData {
+        before: pre_attributes(nodes, fh),
+        after: Some(after),
+    }
+}
+
+/// The attributes of the object that a handle names, where a call leaves it.
+pub fn unchanged(nodes: &Nodes, fh: &RawHandle) -> WccData
+    ensures { result ≡ wcc nodes.now nodes.now fh.now }
+{
+    WccData {
+        before: pre_attributes(nodes, fh),
+        after: post_attributes(nodes, fh),
+    }
+}
+
+/// The refusal of a call, which leaves the object that a handle names.
+pub fn refused(nodes: &Nodes, fh: &RawHandle, status: NfsStatus) -> Refused<WccData>
+    ensures { result ≡ record { status = status; attributes = wcc nodes.now nodes.now fh.now } }
+{
+    Refused {
+        status,
+        attributes: unchanged(nodes, fh),
+    }
 }
 
 /// The answer of a procedure that tells the same whether it is done or refused.

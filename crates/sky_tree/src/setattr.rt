@@ -1,6 +1,6 @@
 //! SETATTR, RFC 1813 section 3.3.2.
 
-ghost use Rattle.std.specs.Prelude.{◌≡◌, IfOk, IsSome, OnErr, OnOk};
+ghost use Rattle.std.specs.Prelude.{◌≡◌, IfOk, IsSome, None, OnErr, OnOk};
 ghost use Rattle.std.specs.Result.{result_err};
 ghost use Rattle.sky_nfs.specs.Handles.{fileid_in};
 ghost use Rattle.sky_nfs.specs.Procedure.{refusal_of, tree_after};
@@ -90,7 +90,7 @@ fn check_setting(nodes: &Nodes, cred: &Cred, fileid: u64, set: &SetAttr) -> Resu
 }
 
 /// The object of which a SETATTR sets attributes, or why it is refused.
-fn check_setattr(
+pub fn check_setattr(
     nodes: &Nodes,
     cred: &Cred,
     object: &RawHandle,
@@ -118,6 +118,7 @@ fn do_setattr(
     ensures refused { IfOk result (λ done. result_err done ≡ refusal_of nodes.old cred.now (Call.SetAttr object.now set.now guard)) }
     ensures tree { OnOk result (nodes.new ≡ tree_after nodes.old cred.now (Call.SetAttr object.now set.now guard) now) }
     ensures err { OnErr result (nodes.new ≡ nodes.old) }
+    ensures memory { OnErr result (refusal_of nodes.old cred.now (Call.SetAttr object.now set.now guard) ≡ None) }
 {
     let fileid = match check_setattr(nodes, cred, object, set, guard) {
         Ok(fileid) => fileid,
@@ -139,6 +140,7 @@ pub fn setattr(
     ensures tree { OnOk result (nodes.new ≡ tree_after nodes.old cred.now (Call.SetAttr object.now set.now guard) now) }
     ensures answer { IfOk result (λ answer. answer ≡ results_or (refusal_of nodes.old cred.now (Call.SetAttr object.now set.now guard)) (wcc nodes.old nodes.new object.now) (wcc nodes.old nodes.new object.now)) }
     ensures err { OnErr result (nodes.new ≡ nodes.old) }
+    ensures memory { OnErr result (refusal_of nodes.old cred.now (Call.SetAttr object.now set.now guard) ≡ None) }
 {
     let before = pre_attributes(nodes, object);
     let done = do_setattr(nodes, cred, object, set, guard, now)?;

@@ -1,11 +1,13 @@
 //! The file tree.
 
-ghost use Rattle.std.specs.Prelude.{◌≡◌, ◌≤◌, ◌^◌, IfOk, OnErr, OnOk, None, Some, cond};
+ghost use Rattle.std.specs.Prelude.{◌≡◌, ◌≤◌, ◌^◌, IfOk, IsTrue, OnErr, OnOk, false};
+ghost use Rattle.sky_nfs.specs.Calls.{is_change};
 ghost use Rattle.sky_nfs.specs.Procedure.{getattr, procedure};
 ghost use Rattle.sky_nfs.specs.Tree.{empty_tree};
 
 use crate::attributes::getattr;
 use crate::changes::apply_change;
+use crate::predict::predict_change;
 use crate::readings::answer_reading;
 use sky_base::{Attr, Cred, Moment, NoMemory};
 use sky_nfs::{Answer, Call, NfsStatus, RawHandle, valid_trees_stay_valid};
@@ -16,7 +18,8 @@ use std::marker::Model;
 /// A file tree in memory, whole. Contracts see it as a tree of the definitions, which is valid.
 ///
 /// A look-up takes time in the logarithm of the number of nodes and of the directory's entries. A READ and a WRITE take
-/// time in the bytes that they move.
+/// time in the bytes that they move. A READDIR takes time in the entries of its page besides the search for the first,
+/// however many the directory has; a READDIRPLUS has one more look-up for each.
 #[derive(Drop)]
 pub struct Tree {
     nodes: Nodes,
@@ -35,7 +38,8 @@ impl Model for Tree {
 }
 
 impl Tree {
-    ghost use Rattle.sky_tree.specs.Offered.{is_offered};
+    ghost use Rattle.sky_nfs.specs.Validity.{IsValidTree};
+    ghost use Rattle.sky_tree.specs.Memory.{takes_memory};
 
     /// The empty tree of a volume: the root alone, in which everyone may do all.
     ///
@@ -56,25 +60,53 @@ impl Tree {
         getattr(&self.nodes, object)
     }
 
-    /// Does a call, and answers it, in this epoch and at this moment (RFC 1813 section 3.3). `None` where the call is
-    /// RENAME, READDIR or READDIRPLUS, which the tree doesn't do yet: all is as it was then.
+    /// What `apply` will answer to a call, told while the tree is as before: so an entry of the journal can be written
+    /// between the answer and the change.
     ///
-    /// `NoMemory` where there is no memory for the answer, or for what the tree grows by. All is as it was then.
+    /// `NoMemory` where there is no memory for the bytes, the text or the entries that the answer carries. For a call that
+    /// changes the tree none is taken: no directory, no file and no text is copied.
+    pub fn answer(
+        &self,
+        epoch: u64,
+        cred: &Cred,
+        call: &Call,
+        moment: Moment,
+    ) -> Result<Answer, NoMemory>
+        ensures answer { IfOk result (λ answer. answer ≡ (procedure self.now epoch cred.now call.now moment).answer) }
+        ensures reads { OnErr result (is_change call.now ≡ false) }
+        ensures memory { OnErr result (IsTrue (takes_memory self.now cred.now call.now)) }
+    {
+        if call.changes() {
+            let answer = predict_change(self.alloc, &self.nodes, epoch, cred, call, moment);
+            Ok(answer)
+        } else {
+            answer_reading(self.alloc, &self.nodes, epoch, cred, call)
+        }
+    }
+
+    /// Does a call, and answers it, in this epoch and at this moment (RFC 1813 section 3.3).
+    ///
+    /// `NoMemory` where there is no memory for the answer, or for what the tree grows by. All is as it was then. No memory is
+    /// taken for NULL, GETATTR, ACCESS, FSSTAT, FSINFO, PATHCONF and COMMIT, nor for a call without name, text or data that
+    /// is refused.
     pub fn apply(
         &mut self,
         epoch: u64,
         cred: &Cred,
         call: &Call,
         moment: Moment,
-    ) -> Result<Option<Answer>, NoMemory>
-        ensures answer { IfOk result (λ answer. answer ≡ cond (is_offered call.now) (Some (procedure self.old epoch cred.now call.now moment).answer) None) }
-        ensures tree { OnOk result (self.new ≡ cond (is_offered call.now) (procedure self.old epoch cred.now call.now moment).tree self.old) }
+    ) -> Result<Answer, NoMemory>
+        ensures answer { IfOk result (λ answer. answer ≡ (procedure self.old epoch cred.now call.now moment).answer) }
+        ensures tree { OnOk result (self.new ≡ (procedure self.old epoch cred.now call.now moment).tree) }
+        ensures valid { IsValidTree self.new }
         ensures err { OnErr result (self.new ≡ self.old) }
+        ensures memory { OnErr result (IsTrue (takes_memory self.old cred.now call.now)) }
     {
         valid_trees_stay_valid();
-        match answer_reading(self.alloc, &self.nodes, epoch, cred, call)? {
-            Some(answer) => Ok(Some(answer)),
-            None => apply_change(self.alloc, &mut self.nodes, epoch, cred, call, moment),
+        if call.changes() {
+            apply_change(self.alloc, &mut self.nodes, epoch, cred, call, moment)
+        } else {
+            answer_reading(self.alloc, &self.nodes, epoch, cred, call)
         }
     }
 }

@@ -23,7 +23,7 @@ const MAX_TRANSFER: u32 = 65536;
 const MAX_FILE_BYTES: u64 = 1 << 30;
 
 /// How many bytes are written: those that the caller names, as far as one WRITE moves them.
-fn write_count(count: u32) -> u32
+pub fn write_count(count: u32) -> u32
     ensures count { result ≡ write_count count }
     ensures most { result ≤ 65536 }
 {
@@ -31,7 +31,7 @@ fn write_count(count: u32) -> u32
 }
 
 /// Whether what is written is stable before the answer.
-fn is_stable(how: StableHow) -> bool
+pub fn is_stable(how: StableHow) -> bool
     ensures { result ≡ is_stable how }
 {
     match how {
@@ -42,7 +42,7 @@ fn is_stable(how: StableHow) -> bool
 
 /// The file that a WRITE writes to, or why it is refused.
 #[tactic(auto, unfolding(sky_nfs::specs::Procedure::refusal_of, sky_nfs::specs::Procedure::rules_of))]
-fn check_write(
+pub fn check_write(
     nodes: &Nodes,
     cred: &Cred,
     file: &RawHandle,
