@@ -3,7 +3,16 @@ use Rattle.std.proofs.Common.{◌≡◌, ◌+◌, ◌<◌, List, ℕ, [], ◌++�
 use Rattle.std.specs.Option.{option_map}
 use Rattle.std.proofs.lemmas.List.{append-nil, length-append, take-append-le}
 use Rattle.std.proofs.Math.Seq.{take-append-add, take-append_seam}
-use Rattle.sky_outside.specs.Told.{Had, Given, GivenPart}
+use Rattle.sky_outside.specs.Told.{WhereTold, Had, Given, GivenPart}
+
+-- what holds where something is told, at what is told
+pub WhereTold-at : {A : Type 0} (told : Option A) (P : A → Type 0) (x : A) → told ≡ Some x → WhereTold told P → P x
+WhereTold-at told P x is holds = subst (λ o. WhereTold o P) is holds
+
+-- to show it, show it at what is told
+pub WhereTold-from : {A : Type 0} (told : Option A) (P : A → Type 0) → ((x : A) → told ≡ Some x → P x) → WhereTold told P
+WhereTold-from None P holds = tt
+WhereTold-from (Some x) P holds = holds x refl
 
 -- a source of which nothing was taken
 pub Had-none : (told : Option (List ℕ)) → Had told told []

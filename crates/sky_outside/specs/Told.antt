@@ -1,10 +1,16 @@
--- What a device tells of its bytes: `None` where it tells nothing.
-use Rattle.std.specs.Prelude.{◌≡◌, ◌<◌, ℕ, List, ◌++◌, length, take, Option, IfSome}
+-- What a device tells: `None` where it tells nothing.
+use Rattle.std.specs.Prelude.{◌≡◌, ◌<◌, ℕ, List, ◌++◌, length, take, Option, None, Some, IfSome}
 use Rattle.std.specs.Option.{option_map}
 
 -- a fact of what is told, which asks nothing where nothing is
-abbrev pub WhereTold : Option (List ℕ) → (List ℕ → Type 0) → Type 0
+abbrev pub WhereTold : {A : Type 0} → Option A → (A → Type 0) → Type 0
 WhereTold told P = IfSome told P
+
+-- two devices, or one at two times, that tell both or neither, where what they tell is related
+abbrev pub BothTold : {A : Type 0} → (A → A → Type 0) → Option A → Option A → Type 0
+BothTold R None None = Unit {0}
+BothTold R (Some old) (Some new) = R old new
+BothTold R told other = ⊥
 
 -- A source began with these bytes, and now has what followed them.
 abbrev pub Had : Option (List ℕ) → Option (List ℕ) → List ℕ → Type 0

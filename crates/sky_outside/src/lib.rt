@@ -7,10 +7,14 @@
 
 mod server;
 mod site;
+mod storage;
 mod stream;
+mod through;
 mod whole;
 
 pub use server::{Clock, Doors, Spawner};
-pub use site::{Cloud, Disk, GetFault, Held, PutFault, Site, Storage};
+pub use site::{Cloud, Disk, GetFault, Held, PutFault, Site};
+pub use storage::Storage;
 pub use stream::{Failed, Sink, Source};
+pub use through::write_through;
 pub use whole::{FillFault, fill, write_all};
