@@ -3,11 +3,17 @@
 #![tactic(auto)]
 
 mod calls;
+mod fate;
+mod mem_site;
 mod objects;
+mod past;
+mod record;
 mod sink;
 mod site;
 mod source;
 
+pub use fate::Fail;
+pub use mem_site::MemSite;
 pub use sink::{MemSink, SureSink};
 pub use site::SureSite;
 pub use source::{MemSource, SureSource};

@@ -6,6 +6,7 @@ ghost use Rattle.sky_base.specs.Limits.{max_number};
 ghost use Rattle.sky_base.specs.Order.{name_order};
 
 use crate::objects::Objects;
+use crate::past::copy_part;
 use sky_base::{NoMemory, SegName};
 use sky_outside::{Cloud, Disk, Failed, GetFault, Held, PutFault, Site, Storage};
 use std::alloc::Global;
@@ -47,13 +48,36 @@ impl SureSite {
 }
 
 impl Storage for SureSite {
-    ghost use Rattle.std.specs.Prelude.{length};
+    ghost use Rattle.std.specs.Prelude.{length, Some, None, refl};
+    ghost use Rattle.sky_memory.specs.Objects.{map_of};
 
     ghost disk_faults = { λ _. 0 };
 
     ghost cloud_faults = { λ _. 0 };
 
     ghost bytes_of = { λ s. length s.image };
+
+    ghost image = { λ s. Some s.image };
+
+    ghost may_leave = { λ _ _. ⊥ };
+
+    ghost moment = { λ _. 0 };
+
+    ghost left_since = { λ _ _ _ _. ⊥ };
+
+    ghost objects = { λ s. Some (map_of s.objects) };
+
+    ghost standing = { λ _. None };
+
+    ghost counts_now = { λ _ _ _ _ _ left _. left };
+
+    ghost only_now = { λ _ _ _ left. absurd left };
+
+    ghost leaves_what_is_read = { λ _ _ left. left };
+
+    ghost has_size = { λ _. refl };
+
+    ghost leaves_its_size = { λ _ _ left. absurd left };
 }
 
 impl Disk for SureSite {
@@ -71,8 +95,7 @@ impl Disk for SureSite {
         ensures bytes { buf.new ≡ take (length buf.old) (drop at self.old.image) }
         ensures same { self.new ≡ self.old }
     {
-        let start = at as usize;
-        buf.copy_from_slice(&self.image[start..start + buf.len()]);
+        copy_part(&self.image, at, buf);
         Ok(())
     }
 
@@ -99,14 +122,15 @@ impl Disk for SureSite {
 }
 
 impl Cloud for SureSite {
-    ghost use Rattle.sky_memory.specs.Objects.{object_of, ChangesOnly, held_of};
+    ghost use Rattle.sky_memory.specs.Objects.{map_of};
+    ghost use Rattle.sky_outside.specs.CloudMap.{after_put, Looks, listing};
 
     /// Stores a copy of the bytes, in the place of what had that name. `Memory` changes nothing.
     fn put(&mut self, name: SegName, bytes: &[u8]) -> Result<(), PutFault>
         requires run { name.run < max_number }
         requires seq { name.seq < max_number }
-        ensures ok { OnOk result
-            (ChangesOnly self.old.objects self.new.objects name (Some bytes.now)) }
+        ensures stored { OnOk result
+            (map_of self.new.objects ≡ after_put name bytes.now (map_of self.old.objects)) }
         ensures err { OnErr result (self.new.objects ≡ self.old.objects) }
         ensures memory { IfErr result (λ e. e ≡ PutFault.Memory) }
         ensures image { self.new.image ≡ self.old.image }
@@ -123,26 +147,12 @@ impl Cloud for SureSite {
     fn get(&mut self, name: SegName, offset: u64, buf: &mut [u8]) -> Result<(), GetFault>
         requires run { name.run < max_number }
         requires seq { name.seq < max_number }
-        ensures ok { OnOk result (IsSomeAnd (object_of self.old.objects name)
-            (λ object. buf.new ≡ take (length buf.old) (drop offset object))) }
-        ensures missing { (result ≡ Err GetFault.Missing) ↔ (object_of self.old.objects name ≡ None) }
-        ensures short { (held : ℕ) →
-            (result ≡ Err (GetFault.Short held)) ↔ IsSomeAnd (object_of self.old.objects name)
-            (λ object. (length object ≡ held) × (held < offset + length buf.old)) }
+        ensures looks { Looks (map_of self.old.objects) name offset (length buf.old) buf.new result }
         ensures sure { ¬ (IsErrOf result GetFault.Failed) }
         ensures err { OnErr result (buf.new ≡ buf.old) }
         ensures same { self.new ≡ self.old }
     {
-        let Some(object) = self.objects.get(name) else {
-            return Err(GetFault::Missing);
-        };
-        let held = object.len() as u64;
-        if offset > held || buf.len() as u64 > held - offset {
-            return Err(GetFault::Short { held });
-        }
-        let start = offset as usize;
-        buf.copy_from_slice(&object[start..start + buf.len()]);
-        Ok(())
+        self.objects.look(name, offset, buf)
     }
 
     /// The objects that it holds, in the order of their names. `Memory` comes where there was none for
@@ -150,7 +160,7 @@ impl Cloud for SureSite {
     fn list(&mut self) -> Result<Vec<Held>, PutFault>
         ensures runs { IfOk result (λ held. All (λ h. h.name.run < max_number) held.items) }
         ensures seqs { IfOk result (λ held. All (λ h. h.name.seq < max_number) held.items) }
-        ensures objects { IfOk result (λ held. held.items ≡ map held_of self.old.objects) }
+        ensures objects { IfOk result (λ held. held.items ≡ listing (map_of self.old.objects)) }
         ensures ascending { IfOk result
             (λ held. IsStrictlySortedBy name_order (map (λ h. h.name) held.items)) }
         ensures memory { IfErr result (λ e. e ≡ PutFault.Memory) }
@@ -164,14 +174,15 @@ impl Cloud for SureSite {
 }
 
 impl Site for SureSite {
-    ghost use Rattle.sky_memory.specs.Objects.{ChangesOnly};
+    ghost use Rattle.sky_memory.specs.Objects.{map_of};
+    ghost use Rattle.sky_outside.specs.CloudMap.{after_removal};
 
     /// Removes an object, or does nothing where none has that name.
     fn remove(&mut self, name: SegName) -> Result<(), Failed>
         requires run { name.run < max_number }
         requires seq { name.seq < max_number }
         ensures sure { IsOk result }
-        ensures objects { ChangesOnly self.old.objects self.new.objects name None }
+        ensures removed { map_of self.new.objects ≡ after_removal name (map_of self.old.objects) }
         ensures image { self.new.image ≡ self.old.image }
     {
         self.objects.remove(name);

@@ -5,7 +5,10 @@ ghost use Rattle.sky_base.specs.Limits.{max_number};
 
 use super::*;
 use sky_base::{Dir, SegName};
-use sky_outside::{Cloud, Disk, Failed, GetFault, Held, PutFault, Sink, Site, Source};
+use sky_outside::{
+    Cloud, Disk, Failed, GetFault, Held, PutFault, Sink, Site, Source, write_through,
+};
+use std::alloc::Global;
 use std::process::Abort;
 use std::test::Fail;
 
@@ -162,5 +165,84 @@ fn a_cloud_holds_objects(rt: HostRuntime) -> Result<(), Fail> {
     let mut buf = [0u8; 3];
     assert_eq!(rt; site.get(name(1), 0, &mut buf), Err(GetFault::Missing));
     assert_eq!(rt; site.list()?.as_slice(), [length_of(2, 5)].as_slice());
+    Ok(())
+}
+
+// A disk of 4 bytes and a cloud, after these calls: 0 writes `ab` at 1, 1 syncs, 2 writes `c` at 0,
+// 3 stores `new` under the name 1, 4 syncs, 5 removes the name 7.
+fn scripted(alloc: Global) -> Result<MemSite, Fail> {
+    let mut held = Vec::new(alloc);
+    held.push((name(7), b"old".to_vec(alloc)?))?;
+    let mut site = MemSite::new(alloc, 4, held, 8, 64, Vec::new(alloc))?;
+    write_through(&mut site, 1, b"ab")?;
+    site.write_at(0, b"c")?;
+    site.put(name(1), b"new")?;
+    site.sync()?;
+    site.remove(name(7))?;
+    Ok(site)
+}
+
+#[test]
+fn a_stop_leaves_one_of_the_outcomes(rt: HostRuntime) -> Result<(), Fail> {
+    let site = scripted(rt.alloc())?;
+    assert_eq!(rt; site.calls(), 6);
+    for (call, part, image, new, old) in [
+        (0, 0, *b"\0\0\0\0", false, true),
+        (0, 1, *b"\0ab\0", false, true),
+        (0, 2, *b"\0\x9e\x9d\0", false, true),
+        (1, 0, *b"\0\0\0\0", false, true),
+        (1, 1, *b"\0ab\0", false, true),
+        (1, 2, *b"\0\x9e\x9d\0", false, true),
+        (2, 0, *b"\0ab\0", false, true),
+        (2, 1, *b"cab\0", false, true),
+        (2, 2, *b"\x9cab\0", false, true),
+        (3, 0, *b"cab\0", false, true),
+        (3, 1, *b"cab\0", true, true),
+        (4, 0, *b"\0ab\0", true, true),
+        (4, 1, *b"cab\0", true, true),
+        (4, 2, *b"\x9cab\0", true, true),
+        (5, 0, *b"cab\0", true, true),
+        (5, 2, *b"cab\0", true, false),
+        (6, 0, *b"cab\0", true, false),
+    ] {
+        let left = site.stopped(call, part)?;
+        assert_eq!(rt; left.image(), image.as_slice(), "in {call}, {part}");
+        assert_eq!(rt; left.held(name(1)).is_some(), new, "in {call}, {part}");
+        assert_eq!(rt; left.held(name(7)).is_some(), old, "in {call}, {part}");
+        assert_eq!(rt; left.calls(), 0);
+    }
+    Ok(())
+}
+
+#[test]
+fn listed_calls_fail_and_happen_or_not(rt: HostRuntime) -> Result<(), Fail> {
+    let alloc = rt.alloc();
+    let fail = [(1, true), (2, false), (4, true), (6, true)]
+        .iter()
+        .map(|(call, happened)| crate::Fail {
+            call: *call,
+            happened: *happened,
+        })
+        .collect(alloc)?;
+    let mut site = MemSite::new(alloc, 3, Vec::new(alloc), 9, 16, fail)?;
+    assert_eq!(rt; site.write_at(0, b"ab"), Ok(()));
+    assert_eq!(rt; site.write_at(1, b"c"), Err(Failed));
+    assert_eq!(rt; site.write_at(0, b"d"), Err(Failed));
+    assert_eq!(rt; site.image(), b"ac\0".as_slice());
+    assert_eq!(rt; site.sync(), Ok(()));
+    assert_eq!(rt; site.put(name(1), b"hi"), Err(PutFault::Failed));
+    assert_eq!(rt; site.list()?.as_slice(), [length_of(1, 2)].as_slice());
+    let mut buf = [0u8; 2];
+    assert_eq!(rt; site.get(name(1), 0, &mut buf), Err(GetFault::Failed));
+    assert_eq!(rt; site.get(name(1), 0, &mut buf), Ok(()));
+    assert_eq!(rt; buf, *b"hi");
+    assert_eq!(rt; site.read(0, &mut buf), Ok(()));
+    assert_eq!(rt; buf, *b"ac");
+    // The record is full.
+    assert_eq!(rt; site.calls(), 9);
+    assert_eq!(rt; site.write_at(0, b"x"), Err(Failed));
+    assert_eq!(rt; site.remove(name(1)), Err(Failed));
+    assert_eq!(rt; site.image(), b"ac\0".as_slice());
+    assert_eq!(rt; site.held(name(1)), Some(b"hi".as_slice()));
     Ok(())
 }

@@ -1,7 +1,7 @@
 use Rattle.std.proofs.Common.{◌≡◌, ◌++◌, map}
-use Rattle.sky_memory.specs.Objects.{held_of}
-use Rattle.sky_memory.proofs.ObjectLaws.{objects_in}
+use Rattle.sky_outside.specs.CloudMap.{held_of}
+use Rattle.sky_memory.specs.Objects.{pairs_of}
 use Rattle.sky_memory.proofs.objects.Objects.list.Given as goal
 
 abbrev pub invariant-loop-name : goal.invariant-loop-name
-invariant-loop-name l = l.listed.items ++ map held_of (objects_in l.name-iterator) ≡ map held_of l.self
+invariant-loop-name l = l.listed.items ++ map held_of (pairs_of l.name-iterator) ≡ map held_of l.self

@@ -1,9 +1,9 @@
-use Rattle.std.proofs.Common.{None, refl}
+use Rattle.std.proofs.Common.{refl}
 use Rattle.std.specs.BTreeMap.{is_at}
 use Rattle.std.proofs.lemmas.Map.Views.{All-map-remove_entry}
 use Rattle.sky_base.proofs.OrderLaws.{name_cmp}
 use Rattle.sky_memory.specs.Objects.{IsInRange}
-use Rattle.sky_memory.proofs.ObjectLaws.{changes_only}
+use Rattle.sky_memory.proofs.ObjectLaws.{removed_in}
 use Rattle.sky_memory.proofs.objects.Objects.remove.Goals as goal
 
 pub invariant_of-self : goal.invariant_of-self
@@ -11,4 +11,4 @@ invariant_of-self c = rw c.remove.ensures.entries (All-map-remove_entry (is_at (
 
 pub returns : goal.returns
 returns c =
-    changes_only c.self.inside.held c.remove.new.self c.args.self.now _ c.args.name None None c.self.view_is refl c.remove.ensures.updates refl
+    removed_in c.self.inside.held c.remove.new.self c.args.self.now _ c.args.name c.self.view_is refl c.remove.ensures.updates
