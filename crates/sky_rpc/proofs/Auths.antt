@@ -1,5 +1,6 @@
 -- Credentials and verifiers: what is accepted is read, and what is read is accepted.
 --   auth_again, auth_took             a credential or a verifier as it is sent
+--   gids_again, gids_took             the groups of a caller
 --   auth_sys_again, auth_sys_took     the body of an AUTH_SYS credential
 --   cred_again, cred_took             who calls
 use Rattle.std.proofs.Common.{◌≡◌, ℕ, zero, suc, Bool, true, false, cond, eqb, ◌≤◌, List, [], ◌∷◌, ◌++◌, length, Result, Ok, Err, Some, None, refl, sym, ap, subst, ◌∙◌, append_assoc, arith}
@@ -81,17 +82,17 @@ uints_took (suc n) bytes ns rest fits e =
     } in
     subst (λ (r : List ℕ). TookUints (suc n) bytes ns r) is.1 (subst (λ (x : List ℕ). TookUints (suc n) bytes x t.0.1) is.0 all)
 
-gids_again : (gids rest : List ℕ) → AllByRecursion IsUint gids → length gids ≤ max_gids → gids_at (uint (length gids) ++ (uints gids ++ rest)) ≡ Ok (gids, rest)
+pub gids_again : (gids rest : List ℕ) → AllByRecursion IsUint gids → length gids ≤ max_gids → gids_at (uint (length gids) ++ (uints gids ++ rest)) ≡ Ok (gids, rest)
 gids_again gids rest all few =
     gids-few (uint (length gids) ++ (uints gids ++ rest)) (length gids) (uints gids ++ rest) (uint_again (length gids) (uints gids ++ rest) (omega arith)) few ∙ uints_again gids rest all
 
 -- what was read as the groups of a caller
-record TookGids (bytes gids rest : List ℕ) : Type 0 where
-  took : Took bytes (uint (length gids) ++ uints gids) rest
-  fit : AllByRecursion IsUint gids
-  few : length gids ≤ max_gids
+pub record TookGids (bytes gids rest : List ℕ) : Type 0 where
+  pub took : Took bytes (uint (length gids) ++ uints gids) rest
+  pub fit : AllByRecursion IsUint gids
+  pub few : length gids ≤ max_gids
 
-gids_took : (bytes gids rest : List ℕ) → AreBytes bytes → gids_at bytes ≡ Ok (gids, rest) → TookGids bytes gids rest
+pub gids_took : (bytes gids rest : List ℕ) → AreBytes bytes → gids_at bytes ≡ Ok (gids, rest) → TookGids bytes gids rest
 unfolding gids_at
 gids_took bytes gids rest fits e =
     let s = bind_ok _ _ _ e in

@@ -21,9 +21,12 @@ const MAX_MACHINE_NAME_BYTES: u32 = 255;
 /// The user, and the group, of a caller that does not say who it is.
 const NOBODY: u32 = 65_534;
 
-/// Takes the further groups of a caller: how many, and each. `TooLong` where there are more than 16.
+/// Takes the further groups of a caller: how many, and each (`authsys_parms`, RFC 5531 appendix A). Others that keep who
+/// called read them so too.
+///
+/// `TooLong` where there are more than 16, and `Short` where bytes are missing; some of them may then have been taken.
 #[tactic(auto, unfolding(crate::specs::Reading::gids_at))]
-fn take_gids(reader: &mut Reader<'_>) -> Result<Gids, XdrFault>
+pub fn take_gids(reader: &mut Reader<'_>) -> Result<Gids, XdrFault>
     ensures exact { Leaves (λ g. g) result reader.new (gids_at reader.old) }
 {
     let count = reader.take_u32()?;

@@ -114,8 +114,10 @@ fn words_of(body: ReplyBody) -> &'static [u32]
     }
 }
 
-/// Writes words, one behind the other.
-fn put_words(writer: &mut Writer<'_>, words: &[u32]) -> Result<(), NoRoom>
+/// Writes words, one behind the other, behind what was written before.
+///
+/// `NoRoom` where not all of them fit into what is left of the buffer; some of them may then have been written.
+pub fn put_words(writer: &mut Writer<'_>, words: &[u32]) -> Result<(), NoRoom>
     ensures fits { IsOk result ↔ (4 * length words.now ≤ room_of writer.old) }
     ensures written { OnOk result (written_of writer.new ≡ written_of writer.old ++ uints words.now) }
     ensures unwritten { OnOk result (unwritten_of writer.new ≡ drop (4 * length words.now) (unwritten_of writer.old)) }
