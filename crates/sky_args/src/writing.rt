@@ -17,8 +17,11 @@ use crate::queries::{put_access, put_range, put_read_dir, put_read_dir_plus};
 use sky_nfs::Call;
 use sky_xdr::{NoRoom, Writer};
 
-/// Writes the arguments of a call.
-fn put_args(writer: &mut Writer<'_>, call: &Call) -> Result<(), NoRoom>
+/// Writes the arguments of a call behind what was written before (RFC 1813, section 3.3), with zeros as the padding: for
+/// what has arguments as a part of it. The condition is that these are fewer than 2^32 bytes.
+///
+/// `NoRoom` where all of that does not fit into what is left of the buffer; a part of it may then have been written.
+pub fn put_args(writer: &mut Writer<'_>, call: &Call) -> Result<(), NoRoom>
     requires { length (args_bytes call.now) < 2 ^ 32 }
     ensures puts { Puts result (args_bytes call.now) writer.old writer.new }
     ensures fits { OnOk result (FitsTypes call.now) }
