@@ -10,7 +10,7 @@ mod writing;
 pub use frame::{Frame, OutFrame};
 pub use laws::all_bytes_have_one_beginning;
 pub use reading::{FrameBuf, FrameFault, read_frame};
-pub use writing::{write_frame, write_out_frame};
+pub use writing::{HEADER_ROOM, write_frame, write_out_frame, write_reply_frame};
 
 /// How many sessions a recording may have. They are numbered from 0.
 pub const SESSION_COUNT: u32 = 256;

@@ -1,17 +1,23 @@
 //! Frames that come out, written to a sink.
 
-ghost use Rattle.std.specs.Prelude.{◌≡◌, ◌≤◌, ◌++◌, length, OnOk, OnErr, IsErr};
+ghost use Rattle.std.specs.Prelude.{◌≡◌, ◌≤◌, ◌++◌, drop, length, OnOk, OnErr, IsErr};
 ghost use Rattle.sky_base.specs.Status.{number_of, place_of};
 ghost use Rattle.sky_outside.specs.Count.{Counts};
 ghost use Rattle.sky_outside.specs.Told.{Given, GivenPart};
 ghost use Rattle.sky_xdr.specs.Encoding.{uint, uhyper, bool as boolean};
-ghost use Rattle.sky_script.specs.Frame.{header as encoded_header, frame, payload_limit, IsOutFrame, out_frame};
+ghost use Rattle.sky_script.specs.Frame.{header as encoded_header, frame, payload_limit, IsOutFrame, Reply, out_frame};
 ghost use Rattle.sky_script.specs.Values.{out_frame_of};
 
 use crate::frame::OutFrame;
 use byteorder::{BigEndian, ByteOrder};
 use sky_base::Status;
 use sky_outside::{Failed, Sink, write_all};
+
+/// How many bytes a frame's header has.
+pub const HEADER_ROOM: usize = 9;
+
+/// The kind of frame that carries a reply.
+const REPLY: u8 = 2;
 
 /// The nine bytes that encode a header.
 #[tactic(auto, unfolding(sky_xdr::specs::Encoding::uint))]
@@ -41,6 +47,20 @@ pub fn write_frame<K: Sink>(
 {
     write_all(sink, &header_bytes(kind, session, payload.len() as u32))?;
     write_all(sink, payload)
+}
+
+/// Writes the frame of a reply that stands in a buffer behind room for its header, nine bytes, which are overwritten. It is
+/// handed to the sink in one piece. Where it fails, the sink was given a prefix of it.
+pub fn write_reply_frame<K: Sink>(sink: &mut K, session: u32, buf: &mut [u8]) -> Result<(), Failed>
+    requires room { HEADER_ROOM ≤ length buf.old }
+    requires formed { IsOutFrame (Reply session (drop HEADER_ROOM buf.old)) }
+    ensures ok { OnOk result (Given (K.written sink.old) (K.written sink.new) (out_frame (Reply session (drop HEADER_ROOM buf.old)))) }
+    ensures partly { OnErr result (GivenPart (K.written sink.old) (K.written sink.new) (out_frame (Reply session (drop HEADER_ROOM buf.old)))) }
+    ensures cause { Counts (K.faults sink.old) (K.faults sink.new) (IsErr result) }
+{
+    let count = buf.len() - HEADER_ROOM;
+    buf[..HEADER_ROOM].copy_from_slice(&header_bytes(REPLY, session, count as u32));
+    write_all(sink, buf)
 }
 
 /// What the frame of an opening carries.
@@ -74,7 +94,7 @@ pub fn write_out_frame<K: Sink>(sink: &mut K, frame: &OutFrame<'_>) -> Result<()
     ensures cause { Counts (K.faults sink.old) (K.faults sink.new) (IsErr result) }
 {
     match *frame {
-        OutFrame::Reply { session, bytes } => write_frame(sink, 2, session, bytes),
+        OutFrame::Reply { session, bytes } => write_frame(sink, REPLY, session, bytes),
         OutFrame::Closed { session } => write_frame(sink, 3, session, &[]),
         OutFrame::Opened {
             epoch,
