@@ -1,14 +1,13 @@
 -- Laws of frames: each but the end has a step where streams and payloads are of bytes, and only one; so do lists of frames.
-use Rattle.std.proofs.Common.{◌≡◌, ℕ, List, [], ◌∷◌, ◌++◌, inl, inr, refl, sym, subst}
+use Rattle.std.proofs.Common.{◌≡◌, ℕ, Option, Some, None, List, [], ◌∷◌, ◌++◌, inl, inr, refl, sym, subst}
 use Rattle.std.specs.List.{AllByRecursion}
 use Rattle.sky_record.specs.Stream.{Progress, AtHeader, InFragment, Whole, TooLong, Received}
 use Rattle.sky_record.proofs.Reading.{completes_some, completes_one}
 use Rattle.sky_script.specs.Frame as frame
 use Rattle.sky_script.specs.Frame.{InFrame, OutFrame, session_count}
 use Rattle.sky_world.specs.Bytes.{AreBytes, HasBytes, HasByteStreams, CarriesBytes}
-use Rattle.sky_world.specs.Meaning.{State, Session, Absent, Open, Closed, start, session_at, with_session, ended, Then, Closes, StepMessage, StepRecords, StepProgress, StepBytes, Step, Steps, IsStep}
-use Rattle.sky_world.specs.Message as message
-use Rattle.sky_world.specs.Message.{Message, meaning_of}
+use Rattle.sky_nfs.specs.History.{History}
+use Rattle.sky_world.specs.Meaning.{State, Session, Absent, Open, Closed, Memory, Ample, start, after_reply, session_at, with_history, with_session, ended, Then, Closes, StepRecord, StepRecords, StepProgress, StepBytes, Step, Steps, IsStep}
 use Rattle.sky_world.proofs.SessionLaws.{all-replicate, all-set, all-at}
 use Rattle.sky_world.proofs.StepLaws.{open_or_not, of_open, of_closed, records_some, progress_some, IsOne, both, passes_one, then_one, records_one, progress_one}
 
@@ -23,20 +22,21 @@ stays s new e h = subst HasByteStreams (sym e) h
 sets : (s new : State) (n : ℕ) (x : Session) → new ≡ with_session s n x → HasBytes x → HasByteStreams s → HasByteStreams new
 sets s new n x e has h = subst HasByteStreams (sym e) (all-set HasBytes s.sessions n x h has)
 
-message_keeps : (n : ℕ) (m : Message) → Keeps (StepMessage n m)
-unfolding Keeps
-message_keeps n message.Close s outs new does h = sets s new n Closed does.1 tt h
-message_keeps n (message.Refused xid reply) s outs new does h = stays s new does.1 h
-message_keeps n (message.Mount xid call) s outs new does h = stays s new does.1 h
-message_keeps n (message.Nfs xid cred call) s outs new does h = stays s new does.1 h
+reply_keeps : (n : ℕ) (reply : Option (List ℕ)) (s : State) → HasByteStreams s → HasByteStreams (after_reply n reply s)
+reply_keeps n None s h = all-set HasBytes s.sessions n Closed h tt
+reply_keeps n (Some bytes) s h = h
 
-records_keep : (n : ℕ) (records : List (List ℕ)) → Keeps (StepRecords n records)
+record_keeps : (mem : Memory) (n : ℕ) (bytes : List ℕ) → Keeps (StepRecord mem n bytes)
 unfolding Keeps
-records_keep n [] s outs new does h = stays s new does.1 h
-records_keep n (bytes ∷ records) s outs new does h =
-    let Both : State → List OutFrame → State → Type 0 = Then (StepMessage n (meaning_of bytes)) (StepRecords n records) in
+record_keeps mem n bytes s outs new does h = stays (after_reply n does.reply (with_history s does.after)) new does.leads (reply_keeps n does.reply (with_history s does.after) h)
+
+records_keep : (mem : Memory) (n : ℕ) (records : List (List ℕ)) → Keeps (StepRecords mem n records)
+unfolding Keeps
+records_keep mem n [] s outs new does h = stays s new does.1 h
+records_keep mem n (bytes ∷ records) s outs new does h =
+    let Both : State → List OutFrame → State → Type 0 = Then (StepRecord mem n bytes) (StepRecords mem n records) in
     elim (open_or_not n s) [
-      | inl e ↦ let k = of_open Both n s outs new e does in records_keep n records k.0 k.2 new k.4 (message_keeps n (meaning_of bytes) s k.1 k.0 k.3 h)
+      | inl e ↦ let k = of_open Both n s outs new e does in records_keep mem n records k.0 k.2 new k.4 (record_keeps mem n bytes s k.1 k.0 k.3 h)
       | inr e ↦ stays s new (of_closed Both n s outs new e does).1 h
     ]
 
@@ -60,47 +60,47 @@ bytes-append (x ∷ xs) ys p q = (p.0, bytes-append xs ys p.1 q)
 abbrev HasStep : (State → List OutFrame → State → Type 0) → State → Type 0
 HasStep Does s = (outs : List OutFrame) × (new : State) × HasByteStreams new × Does s outs new
 
-bytes_some : (x : Session) (n : ℕ) (payload : List ℕ) (s : State) → HasBytes x → AreBytes payload → HasByteStreams s → HasStep (StepBytes x n payload) s
+bytes_some : (mem : Memory) (x : Session) (n : ℕ) (payload : List ℕ) (s : State) → HasBytes x → AreBytes payload → HasByteStreams s → HasStep (StepBytes mem x n payload) s
 unfolding Keeps
-bytes_some (Open stream) n payload s has more h =
+bytes_some mem (Open stream) n payload s has more h =
     let c = completes_some stream payload has more in
     let fed : State = with_session s n (Open (stream ++ payload)) in
     let fed_has : HasByteStreams fed = all-set HasBytes s.sessions n (Open (stream ++ payload)) h (bytes-append stream payload has more) in
-    let first = records_some n c.0 fed in
+    let first = records_some mem n c.0 fed in
     let second = progress_some n c.1.progress first.1 in
-    let mid_has = records_keep n c.0 fed first.0 first.1 first.2 fed_has in
+    let mid_has = records_keep mem n c.0 fed first.0 first.1 first.2 fed_has in
     (first.0 ++ second.0, second.1, progress_keeps n c.1.progress first.1 second.0 second.1 second.2 mid_has, (c.0, c.1, c.2, (first.1, first.0, second.0, first.2, second.2, refl)))
-bytes_some Absent n payload s has more h = ([], s, h, (refl, refl))
-bytes_some Closed n payload s has more h = ([], s, h, (refl, refl))
+bytes_some mem Absent n payload s has more h = ([], s, h, (refl, refl))
+bytes_some mem Closed n payload s has more h = ([], s, h, (refl, refl))
 
 ended_has : (x : Session) → HasBytes x → HasBytes (ended x)
 ended_has Absent h = tt
 ended_has (Open stream) h = tt
 ended_has Closed h = tt
 
-pub step_some : (old : State) (f : InFrame) → HasByteStreams old → CarriesBytes f → IsStep f → (outs : List OutFrame) × (new : State) × HasByteStreams new × Step old f outs new
-step_some old (frame.Begin n) h carries is = ([], with_session old n (Open []), all-set HasBytes old.sessions n (Open []) h tt, (refl, refl))
-step_some old (frame.Bytes n payload) h carries is = bytes_some (session_at old n) n payload old (all-at HasBytes old.sessions n Absent h tt) carries h
-step_some old (frame.Close n) h carries is =
+pub step_some : (mem : Memory) (old : State) (f : InFrame) → HasByteStreams old → CarriesBytes f → IsStep f → (outs : List OutFrame) × (new : State) × HasByteStreams new × Step mem old f outs new
+step_some mem old (frame.Begin n) h carries is = ([], with_session old n (Open []), all-set HasBytes old.sessions n (Open []) h tt, (refl, refl))
+step_some mem old (frame.Bytes n payload) h carries is = bytes_some mem (session_at old n) n payload old (all-at HasBytes old.sessions n Absent h tt) carries h
+step_some mem old (frame.Close n) h carries is =
     let x : Session = ended (session_at old n) in
     ([], with_session old n x, all-set HasBytes old.sessions n x h (ended_has (session_at old n) (all-at HasBytes old.sessions n Absent h tt)), (refl, refl))
-step_some old (frame.SetMoment at) h carries is = ([], record old { moment = at }, h, (refl, refl))
-step_some old frame.End h carries is = absurd is
+step_some mem old (frame.SetMoment at) h carries is = ([], record old { moment = at }, h, (refl, refl))
+step_some mem old frame.End h carries is = absurd is
 
 -- ---- and only one
 
-bytes_one : (x : Session) (n : ℕ) (payload : List ℕ) → IsOne (StepBytes x n payload)
+bytes_one : (x : Session) (n : ℕ) (payload : List ℕ) → IsOne (StepBytes Ample x n payload)
 bytes_one (Open stream) n payload s a b t u p q =
     let c = completes_one stream payload p.0 q.0 p.1 q.1 p.2 q.2 in
     let fed : State = with_session s n (Open (stream ++ payload)) in
-    let Does : List (List ℕ) → Progress → State → List OutFrame → State → Type 0 = λ records progress. Then (StepRecords n records) (StepProgress n progress) in
+    let Does : List (List ℕ) → Progress → State → List OutFrame → State → Type 0 = λ records progress. Then (StepRecords Ample n records) (StepProgress n progress) in
     let same : Does q.0 p.1.progress fed a t = subst (λ (records : List (List ℕ)). Does records p.1.progress fed a t) c.0 p.3 in
     let both_same : Does q.0 q.1.progress fed a t = subst (λ (end : Received). Does q.0 end.progress fed a t) c.1 same in
-    then_one (StepRecords n q.0) (StepProgress n q.1.progress) (records_one n q.0) (progress_one n q.1.progress) fed a b t u both_same q.3
+    then_one (StepRecords Ample n q.0) (StepProgress n q.1.progress) (records_one n q.0) (progress_one n q.1.progress) fed a b t u both_same q.3
 bytes_one Absent n payload s a b t u p q = passes_one s a b t u p q
 bytes_one Closed n payload s a b t u p q = passes_one s a b t u p q
 
-pub step_one : (old : State) (f : InFrame) (outs others : List OutFrame) (new other : State) → Step old f outs new → Step old f others other → (outs ≡ others) × (new ≡ other)
+pub step_one : (old : State) (f : InFrame) (outs others : List OutFrame) (new other : State) → Step Ample old f outs new → Step Ample old f others other → (outs ≡ others) × (new ≡ other)
 step_one old (frame.Begin n) a b t u p q = both old a b [] t u (with_session old n (Open [])) p q
 step_one old (frame.Bytes n payload) a b t u p q = bytes_one (session_at old n) n payload old a b t u p q
 step_one old (frame.Close n) a b t u p q = both old a b [] t u (with_session old n (ended (session_at old n))) p q
@@ -109,17 +109,17 @@ step_one old frame.End a b t u p q = absurd p
 
 -- ---- frames, one after the other
 
-steps_some : (s : State) (frames : List InFrame) → HasByteStreams s → AllByRecursion (λ f. IsStep f × CarriesBytes f) frames → (outs : List OutFrame) × (last : State) × Steps s frames outs last
-steps_some s [] h all = ([], s, (refl, refl))
-steps_some s (f ∷ frames) h all =
-    let first = step_some s f h all.0.1 all.0.0 in
-    let rest = steps_some first.1 frames first.2 all.1 in
+steps_some : (mem : Memory) (s : State) (frames : List InFrame) → HasByteStreams s → AllByRecursion (λ f. IsStep f × CarriesBytes f) frames → (outs : List OutFrame) × (last : State) × Steps mem s frames outs last
+steps_some mem s [] h all = ([], s, (refl, refl))
+steps_some mem s (f ∷ frames) h all =
+    let first = step_some mem s f h all.0.1 all.0.0 in
+    let rest = steps_some mem first.1 frames first.2 all.1 in
     (first.0 ++ rest.0, rest.1, (first.1, first.0, rest.0, first.3, rest.2, refl))
 
-pub frames_some : (frames : List InFrame) → AllByRecursion (λ f. IsStep f × CarriesBytes f) frames → (outs : List OutFrame) × (last : State) × Steps start frames outs last
-frames_some frames all = steps_some start frames (all-replicate HasBytes session_count Absent tt) all
+pub frames_some : (mem : Memory) (frames : List InFrame) → AllByRecursion (λ f. IsStep f × CarriesBytes f) frames → (outs : List OutFrame) × (last : State) × Steps mem start frames outs last
+frames_some mem frames all = steps_some mem start frames (all-replicate HasBytes session_count Absent tt) all
 
-pub frames_one : (s : State) (frames : List InFrame) (outs others : List OutFrame) (last other : State) → Steps s frames outs last → Steps s frames others other → (outs ≡ others) × (last ≡ other)
+pub frames_one : (s : State) (frames : List InFrame) (outs others : List OutFrame) (last other : State) → Steps Ample s frames outs last → Steps Ample s frames others other → (outs ≡ others) × (last ≡ other)
 frames_one s [] a b t u p q = passes_one s a b t u p q
 frames_one s (f ∷ frames) a b t u p q =
-    then_one (λ x. Step x f) (λ x. Steps x frames) (λ x c d v w. step_one x f c d v w) (λ x c d v w. frames_one x frames c d v w) s a b t u p q
+    then_one (λ x. Step Ample x f) (λ x. Steps Ample x frames) (λ x c d v w. step_one x f c d v w) (λ x c d v w. frames_one x frames c d v w) s a b t u p q

@@ -1,9 +1,12 @@
-mod HandleLaws
+pub mod AnswerLaws
 pub mod SessionLaws
 pub mod StepLaws
+pub mod FitLaws
 pub mod FrameLaws
 pub mod FeedLaws
 pub mod ReplyLaws
 pub mod PayloadLaws
 pub mod StandLaws
 pub mod CutLaws
+pub mod HistoryLaws
+pub mod ServeLaws

@@ -1,24 +1,13 @@
 -- Laws of replies that are written.
-use Rattle.std.proofs.Common.{◌≡◌, ◌≤◌, ℕ, Bool, true, false, if◌then◌else◌, Some, None, List, ◌++◌, length, take, drop, sym, ap, ◌∙◌, arith}
+use Rattle.std.proofs.Common.{◌≡◌, ◌≤◌, ℕ, Bool, true, false, if◌then◌else◌, Option, Some, None, List, ◌++◌, length, take, drop, refl, sym, ap, ◌∙◌, arith}
 use Rattle.std.proofs.Math.Seq.{drop-append_seam}
 use Rattle.std.proofs.lemmas.List.{take-append-le, length-take-le}
+use Rattle.std.specs.Option.{option_map}
+use Rattle.std.specs.Prelude.{IfSome}
 use borrow.Rule.Slice.PartMut.{put_mid, post_of}
 use Rattle.std.specs.Str.{bytes_eq}
-use Rattle.sky_nfs.specs.declared.answer.Answer.{Answer}
-use Rattle.sky_nfs.specs.declared.call.Call.{Call}
-use Rattle.sky_nfs.specs.declared.call.Call.TheVariants.{GetAttr}
-use Rattle.sky_nfs.specs.Procedure.{getattr}
-use Rattle.sky_nfs.specs.Tree.{Tree}
-use Rattle.sky_results.specs.Answers.{answer_bytes}
-use Rattle.sky_results.proofs.Bounds.{answer_most}
 use Rattle.sky_mount.specs.Mount.{MountCall, Null, Mnt, Dump, Umnt, UmntAll, Export, results, mount_results, root_handle, exported_path}
 use Rattle.sky_mount.proofs.Sizes.{length-root, length-none, length-no_mounts, length-export}
-use Rattle.sky_world.specs.Meaning.{answer_to}
-
--- the results of a call that is served have at most 236 bytes
-pub length_results : (tree : Tree) (call : Call) → length (answer_bytes (answer_to tree call)) ≤ 236
-length_results tree (GetAttr object) = answer_most (Answer.GetAttr (getattr tree object))
-length_results tree _ = answer_most Answer.Null
 
 -- the results of a call of MOUNT have at most 36 bytes
 pub length_mounted : (number : ℕ) (call : MountCall) → length (results number call) ≤ 36
@@ -40,3 +29,9 @@ written_behind buffer out at k n within fits =
     let rest : List ℕ = out ++ post_of at k buffer in
     let cut : drop at (take at buffer ++ rest) ≡ rest = ap (λ (i : ℕ). drop i (take at buffer ++ rest)) (sym prefix) ∙ drop-append_seam (take at buffer) rest in
     ap (take n) cut ∙ take-append-le n out (post_of at k buffer) fits
+
+-- a record that was written behind a prefix that stays, if there is one
+pub same_behind : (r : Option ℕ) (buffer out : List ℕ) (at k : ℕ) → at ≤ length buffer → 131072 ≤ length out → IfSome r (λ n. n ≤ 131072)
+    → option_map (λ n. take n (drop at (put_mid at k buffer out))) r ≡ option_map (λ n. take n out) r
+same_behind None buffer out at k within long fits = refl
+same_behind (Some n) buffer out at k within long fits = ap Some (written_behind buffer out at k n within (omega (arith, fits, long)))

@@ -11,7 +11,8 @@ use Rattle.sky_world.specs.Sessions.{closed}
 use Rattle.sky_world.specs.declared.sessions.Session.{Session}
 use Rattle.sky_world.specs.declared.sessions.Session.TheVariants.{Absent, Open, Closed}
 use Rattle.sky_world.specs.Meaning as meaning
-use Rattle.sky_world.specs.Meaning.{State, start, session_at, with_session, StepBytes}
+use Rattle.sky_world.specs.Meaning.{State, Scarce, start, service_of, session_at, with_history, with_session, StepBytes}
+use Rattle.sky_world.specs.Service.{Service}
 use Rattle.sky_world.specs.World.{WorldView, Stands, StandsAt, StandsFor, opened_world, Stepped, SteppedPart}
 use Rattle.sky_world.specs.Feeding.{Handled, HandledPart}
 
@@ -23,9 +24,7 @@ get_or-absent (suc n) (suc i) x = get_or-absent n i x
 
 pub stands_opened : Stands opened_world start
 stands_opened = record {
-  epoch = refl;
-  tree = refl;
-  moment = refl;
+  service = refl;
   count = length-replicate session_count Absent;
   state_count = length-replicate session_count meaning.Absent;
   sessions = λ number. rw (get_or-absent session_count number Absent, get_or-absent session_count number meaning.Absent) tt;
@@ -35,9 +34,7 @@ stands_opened = record {
 pub stands_with : (w : WorldView) (s : State) (number : ℕ) (slot : Session) (session : meaning.Session) → number < session_count → Stands w s → StandsFor slot session
     → Stands (record w { sessions = set w.sessions number slot }) (with_session s number session)
 stands_with w s number slot session lt stands for = record {
-  epoch = stands.epoch;
-  tree = stands.tree;
-  moment = stands.moment;
+  service = stands.service;
   count = length-set w.sessions number slot ∙ stands.count;
   state_count = length-set s.sessions number session ∙ stands.state_count;
   sessions = λ k.
@@ -55,7 +52,7 @@ open_of received meaning.Absent h = absurd h
 open_of received meaning.Closed h = absurd h
 
 -- what another one stands for is passed over
-passed : (slot : Session) (x : meaning.Session) (number : ℕ) (payload : List ℕ) (s : State) → ((received : Received) → slot ≡ Open received → ⊥) → StandsFor slot x → StepBytes x number payload s [] s
+passed : (slot : Session) (x : meaning.Session) (number : ℕ) (payload : List ℕ) (s : State) → ((received : Received) → slot ≡ Open received → ⊥) → StandsFor slot x → StepBytes Scarce x number payload s [] s
 passed slot meaning.Absent number payload s closed h = (refl, refl)
 passed slot meaning.Closed number payload s closed h = (refl, refl)
 passed (Open received) (meaning.Open stream) number payload s closed h = absurd (closed received refl)
@@ -67,19 +64,21 @@ abbrev with_sessions : WorldView → List Session → WorldView
 with_sessions w sessions = record w { sessions = sessions }
 
 module _ (w : WorldView) (number : ℕ) (payload : List ℕ) (lt : number < session_count) (before after : Option (List ℕ)) where
-  pub stepped_open : (received : Received) (next : Session) → get_or w.sessions number Absent ≡ Open received → Handled number w.tree received payload next before after
-      → Stepped w (Bytes number payload) (with_sessions w (set w.sessions number next)) before after
-  stepped_open received next slot handled = λ s stands.
+  pub stepped_open : (received : Received) (later : Service) (next : Session) → get_or w.sessions number Absent ≡ Open received → Handled number w.service received payload later next before after
+      → Stepped w (Bytes number payload) (record w { service = later; sessions = set w.sessions number next }) before after
+  stepped_open received later next slot handled = λ s stands.
       let at = open_of received (session_at s number) (subst (λ (x : Session). StandsFor x (session_at s number)) slot (stands.sessions number)) in
-      let h = handled s at.0 (omega (arith, stands.state_count, lt)) (sym stands.tree) at.2 in
-      let new : State = with_session s number h.0 in
-      (h.1, new, subst (λ (x : meaning.Session). StepBytes x number payload s h.1 new) (sym at.1) h.3, stands_with w s number next h.0 lt stands h.2, h.4)
+      let h = handled s at.0 (omega (arith, stands.state_count, lt)) (sym stands.service) at.2 in
+      let new : State = with_session (with_history s h.1) number h.0 in
+      let there : Stands (record w { service = later }) (with_history s h.1) =
+      record { service = sym h.4; count = stands.count; state_count = stands.state_count; sessions = stands.sessions } in
+      (h.2, new, subst (λ (x : meaning.Session). StepBytes Scarce x number payload s h.2 new) (sym at.1) h.5, stands_with (record w { service = later }) (with_history s h.1) number next h.0 lt there h.3, h.6)
 
-  pub stepped_part : (received : Received) → get_or w.sessions number Absent ≡ Open received → HandledPart number w.tree received payload before after → SteppedPart w (Bytes number payload) before after
+  pub stepped_part : (received : Received) → get_or w.sessions number Absent ≡ Open received → HandledPart number w.service received payload before after → SteppedPart w (Bytes number payload) before after
   stepped_part received slot handled = λ s stands.
       let at = open_of received (session_at s number) (subst (λ (x : Session). StandsFor x (session_at s number)) slot (stands.sessions number)) in
-      let h = handled s at.0 (omega (arith, stands.state_count, lt)) (sym stands.tree) at.2 in
-      (h.0, h.1, subst (λ (x : meaning.Session). StepBytes x number payload s h.0 h.1) (sym at.1) h.2, h.3)
+      let h = handled s at.0 (omega (arith, stands.state_count, lt)) (sym stands.service) at.2 in
+      (h.0, h.1, subst (λ (x : meaning.Session). StepBytes Scarce x number payload s h.0 h.1) (sym at.1) h.2, h.3)
 
   pub stepped_passed : (slot : Session) → get_or w.sessions number Absent ≡ slot → ((received : Received) → slot ≡ Open received → ⊥)
       → Stepped w (Bytes number payload) (with_sessions w (set w.sessions number slot)) before before
@@ -115,13 +114,13 @@ stepped_close w number told lt = λ s stands.
     ([], with_session s number x, (refl, refl), stands_with w s number (closed (get_or w.sessions number Absent)) x lt stands (closed_stands (get_or w.sessions number Absent) (session_at s number) (stands.sessions number)), Given-none told)
 
 -- a moment is set
-pub stepped_moment : (w : WorldView) (at : Moment) (told : Option (List ℕ)) → Stepped w (SetMoment at) (record w { moment = at }) told told
+pub stepped_moment : (w : WorldView) (at : Moment) (told : Option (List ℕ)) → Stepped w (SetMoment at) (record w { service = record w.service { moment = at } }) told told
 stepped_moment w at told = λ s stands.
-    ([], record s { moment = at }, (refl, refl), record { epoch = stands.epoch; tree = stands.tree; moment = refl; count = stands.count; state_count = stands.state_count; sessions = stands.sessions }, Given-none told)
+    ([], record s { moment = at }, (refl, refl), record { service = ap (λ (x : Service). let y : Service = record x { moment = at } in y) stands.service; count = stands.count; state_count = stands.state_count; sessions = stands.sessions }, Given-none told)
 
 -- what stands for a state does so whether or not it has ended
 pub stepped_ended : (w v : WorldView) (f : InFrame) (before after : Option (List ℕ)) (over : Bool) → Stepped w f v before after → Stepped w f (record v { ended = over }) before after
 stepped_ended w v f before after over stepped = λ s stands.
     let h = stepped s stands in
     let k = h.3 in
-    (h.0, h.1, h.2, record { epoch = k.epoch; tree = k.tree; moment = k.moment; count = k.count; state_count = k.state_count; sessions = k.sessions }, h.4)
+    (h.0, h.1, h.2, record { service = k.service; count = k.count; state_count = k.state_count; sessions = k.sessions }, h.4)

@@ -1,14 +1,13 @@
 -- Laws of the steps: each has an outcome, and only one.
-use Rattle.std.proofs.Common.{◌≡◌, ℕ, ◌<◌, Bool, true, false, List, [], ◌∷◌, ◌++◌, length, refl, sym, ap, subst, ◌∙◌, ◌⊎◌, inl, inr, append_assoc}
+use Rattle.std.proofs.Common.{◌≡◌, ℕ, ◌<◌, Bool, true, false, List, [], ◌∷◌, ◌++◌, length, Option, refl, sym, ap, subst, ◌∙◌, ◌⊎◌, inl, inr, append_assoc}
 use Rattle.std.proofs.lemmas.List.{get_or-set_same, set-set}
 use Rattle.sky_record.specs.Stream.{Progress, AtHeader, InFragment, Whole, TooLong}
 use Rattle.sky_script.specs.Frame as frame
-use Rattle.sky_script.specs.Frame.{OutFrame, Reply}
-use Rattle.sky_mount.specs.Mount as mount
-use Rattle.sky_rpc.specs.Reply.{Success, reply_record}
-use Rattle.sky_world.specs.Meaning.{State, Session, volume, Absent, Closed, session_at, with_session, is_open, results_of, Passes, Then, WhereOpen, Closes, StepMessage, StepRecords, StepProgress}
-use Rattle.sky_world.specs.Message as message
-use Rattle.sky_world.specs.Message.{Message, meaning_of}
+use Rattle.sky_script.specs.Frame.{OutFrame}
+use Rattle.sky_nfs.specs.History.{History}
+use Rattle.sky_world.specs.Meaning.{State, Session, Absent, Closed, Memory, Ample, Scarce, Answered, by_meaning, out_of_memory, after_message, after_reply, service_of, session_at, with_history, with_session, frame_for, is_open, Passes, Then, WhereOpen, Closes, StepRecord, StepRecords, StepProgress}
+use Rattle.sky_world.specs.Message.{meaning_of}
+use Rattle.sky_world.specs.Service.{reply_to}
 
 -- ---- the session that was set
 
@@ -43,31 +42,31 @@ open_or_not n s = either (is_open (session_at s n))
 -- ---- records, and further records
 
 -- a session that is not open has its records passed over
-pub records_pass : (n : ℕ) (records : List (List ℕ)) (s : State) (outs : List OutFrame) (new : State) → is_open (session_at s n) ≡ false → StepRecords n records s outs new → Passes s outs new
-records_pass n [] s outs new e steps = steps
-records_pass n (bytes ∷ records) s outs new e steps = of_closed (Then (StepMessage n (meaning_of bytes)) (StepRecords n records)) n s outs new e steps
+pub records_pass : (mem : Memory) (n : ℕ) (records : List (List ℕ)) (s : State) (outs : List OutFrame) (new : State) → is_open (session_at s n) ≡ false → StepRecords mem n records s outs new → Passes s outs new
+records_pass mem n [] s outs new e steps = steps
+records_pass mem n (bytes ∷ records) s outs new e steps = of_closed (Then (StepRecord mem n bytes) (StepRecords mem n records)) n s outs new e steps
 
-pub records_passed : (n : ℕ) (records : List (List ℕ)) (s : State) → is_open (session_at s n) ≡ false → StepRecords n records s [] s
-records_passed n [] s e = (refl, refl)
-records_passed n (bytes ∷ records) s e = where_closed (Then (StepMessage n (meaning_of bytes)) (StepRecords n records)) n s [] s e (refl, refl)
+pub records_passed : (mem : Memory) (n : ℕ) (records : List (List ℕ)) (s : State) → is_open (session_at s n) ≡ false → StepRecords mem n records s [] s
+records_passed mem n [] s e = (refl, refl)
+records_passed mem n (bytes ∷ records) s e = where_closed (Then (StepRecord mem n bytes) (StepRecords mem n records)) n s [] s e (refl, refl)
 
-pub records_then : (n : ℕ) (records further : List (List ℕ)) (s : State) (a : List OutFrame) (t : State) (b : List OutFrame) (u : State)
-    → StepRecords n records s a t → StepRecords n further t b u → StepRecords n (records ++ further) s (a ++ b) u
-records_then n [] further s a t b u p q =
-    let from : StepRecords n further s b u = subst (λ (x : State). StepRecords n further x b u) p.1 q in
-    subst (λ (x : List OutFrame). StepRecords n further s (x ++ b) u) (sym p.0) from
-records_then n (bytes ∷ records) further s a t b u p q =
-    let First : State → List OutFrame → State → Type 0 = StepMessage n (meaning_of bytes) in
+pub records_then : (mem : Memory) (n : ℕ) (records further : List (List ℕ)) (s : State) (a : List OutFrame) (t : State) (b : List OutFrame) (u : State)
+    → StepRecords mem n records s a t → StepRecords mem n further t b u → StepRecords mem n (records ++ further) s (a ++ b) u
+records_then mem n [] further s a t b u p q =
+    let from : StepRecords mem n further s b u = subst (λ (x : State). StepRecords mem n further x b u) p.1 q in
+    subst (λ (x : List OutFrame). StepRecords mem n further s (x ++ b) u) (sym p.0) from
+records_then mem n (bytes ∷ records) further s a t b u p q =
+    let First : State → List OutFrame → State → Type 0 = StepRecord mem n bytes in
     elim (open_or_not n s) [
       | inl e ↦
-          let h = of_open (Then First (StepRecords n records)) n s a t e p in
-          let rest = records_then n records further h.0 h.2 t b u h.4 q in
-          where_open (Then First (StepRecords n (records ++ further))) n s (a ++ b) u e (h.0, h.1, h.2 ++ b, h.3, rest, ap (λ (x : List OutFrame). x ++ b) h.5 ∙ append_assoc h.1 h.2 b)
+          let h = of_open (Then First (StepRecords mem n records)) n s a t e p in
+          let rest = records_then mem n records further h.0 h.2 t b u h.4 q in
+          where_open (Then First (StepRecords mem n (records ++ further))) n s (a ++ b) u e (h.0, h.1, h.2 ++ b, h.3, rest, ap (λ (x : List OutFrame). x ++ b) h.5 ∙ append_assoc h.1 h.2 b)
       | inr e ↦
-          let h = of_closed (Then First (StepRecords n records)) n s a t e p in
+          let h = of_closed (Then First (StepRecords mem n records)) n s a t e p in
           let closed : is_open (session_at t n) ≡ false = ap (λ (x : State). is_open (session_at x n)) h.1 ∙ e in
-          let k = records_pass n further t b u closed q in
-          where_closed (Then First (StepRecords n (records ++ further))) n s (a ++ b) u e (ap (λ (x : List OutFrame). x ++ b) h.0 ∙ k.0, k.1 ∙ h.1)
+          let k = records_pass mem n further t b u closed q in
+          where_closed (Then First (StepRecords mem n (records ++ further))) n s (a ++ b) u e (ap (λ (x : List OutFrame). x ++ b) h.0 ∙ k.0, k.1 ∙ h.1)
     ]
 
 -- ---- each step has an outcome
@@ -75,22 +74,23 @@ records_then n (bytes ∷ records) further s a t b u p q =
 abbrev pub HasOutcome : (State → List OutFrame → State → Type 0) → State → Type 0
 HasOutcome Does s = (outs : List OutFrame) × (new : State) × Does s outs new
 
-pub message_some : (n : ℕ) (m : Message) (s : State) → HasOutcome (StepMessage n m) s
-message_some n message.Close s = (frame.Closed n ∷ [], with_session s n Closed, (refl, refl))
-message_some n (message.Refused xid reply) s = (Reply n (reply_record xid reply) ∷ [], s, (refl, refl))
-message_some n (message.Mount xid call) s = (Reply n (reply_record xid (Success (mount.results volume call))) ∷ [], s, (refl, refl))
-message_some n (message.Nfs xid cred call) s = (Reply n (reply_record xid (Success (results_of s.tree call))) ∷ [], s, (refl, refl))
+-- by what it means a record always has an answer
+pub record_some : (mem : Memory) (n : ℕ) (bytes : List ℕ) (s : State) → HasOutcome (StepRecord mem n bytes) s
+record_some mem n bytes s =
+    let reply : Option (List ℕ) = reply_to (service_of s) (meaning_of bytes) in
+    let after : History = after_message s (meaning_of bytes) in
+    (frame_for n reply ∷ [], after_reply n reply (with_history s after), record { reply = reply; after = after; answered = by_meaning refl refl; answers = refl; leads = refl })
 
-pub records_some : (n : ℕ) (records : List (List ℕ)) (s : State) → HasOutcome (StepRecords n records) s
-records_some n [] s = ([], s, (refl, refl))
-records_some n (bytes ∷ records) s =
-    let First : State → List OutFrame → State → Type 0 = StepMessage n (meaning_of bytes) in
+pub records_some : (mem : Memory) (n : ℕ) (records : List (List ℕ)) (s : State) → HasOutcome (StepRecords mem n records) s
+records_some mem n [] s = ([], s, (refl, refl))
+records_some mem n (bytes ∷ records) s =
+    let First : State → List OutFrame → State → Type 0 = StepRecord mem n bytes in
     elim (open_or_not n s) [
       | inl e ↦
-          let h = message_some n (meaning_of bytes) s in
-          let k = records_some n records h.1 in
-          (h.0 ++ k.0, k.1, where_open (Then First (StepRecords n records)) n s (h.0 ++ k.0) k.1 e (h.1, h.0, k.0, h.2, k.2, refl))
-      | inr e ↦ ([], s, where_closed (Then First (StepRecords n records)) n s [] s e (refl, refl))
+          let h = record_some mem n bytes s in
+          let k = records_some mem n records h.1 in
+          (h.0 ++ k.0, k.1, where_open (Then First (StepRecords mem n records)) n s (h.0 ++ k.0) k.1 e (h.1, h.0, k.0, h.2, k.2, refl))
+      | inr e ↦ ([], s, where_closed (Then First (StepRecords mem n records)) n s [] s e (refl, refl))
     ]
 
 pub progress_some : (n : ℕ) (progress : Progress) (s : State) → HasOutcome (StepProgress n progress) s
@@ -103,7 +103,10 @@ progress_some n TooLong s =
       | inr e ↦ ([], s, where_closed (Closes n) n s [] s e (refl, refl))
     ]
 
--- ---- and only one
+-- ---- and only one, where there was memory
+
+ample_not_scarce : Ample ≡ Scarce → ⊥
+ample_not_scarce e = cc
 
 abbrev pub IsOne : (State → List OutFrame → State → Type 0) → Type 0
 IsOne Does = (s : State) (a b : List OutFrame) (t u : State) → Does s a t → Does s b u → (a ≡ b) × (t ≡ u)
@@ -118,11 +121,19 @@ passes_one s a b t u p q = both s a b [] t u s p q
 pub closes_one : (n : ℕ) → IsOne (Closes n)
 closes_one n s a b t u p q = both s a b (frame.Closed n ∷ []) t u (with_session s n Closed) p q
 
-pub message_one : (n : ℕ) (m : Message) → IsOne (StepMessage n m)
-message_one n message.Close s a b t u p q = closes_one n s a b t u p q
-message_one n (message.Refused xid reply) s a b t u p q = both s a b (Reply n (reply_record xid reply) ∷ []) t u s p q
-message_one n (message.Mount xid call) s a b t u p q = both s a b (Reply n (reply_record xid (Success (mount.results volume call))) ∷ []) t u s p q
-message_one n (message.Nfs xid cred call) s a b t u p q = both s a b (Reply n (reply_record xid (Success (results_of s.tree call))) ∷ []) t u s p q
+-- where there was memory, the answer to a record is that of its meaning
+answered_one : (s : State) (bytes : List ℕ) (p q : Option (List ℕ)) (h k : History) → Answered Ample s bytes p h → Answered Ample s bytes q k → (p ≡ q) × (h ≡ k)
+answered_one s bytes p q h k (by_meaning e f) (by_meaning e' f') = (e ∙ sym e', f ∙ sym f')
+answered_one s bytes p q h k (out_of_memory scarce out stays) other = absurd (ample_not_scarce scarce)
+answered_one s bytes p q h k (by_meaning e f) (out_of_memory scarce out stays) = absurd (ample_not_scarce scarce)
+
+pub record_one : (n : ℕ) (bytes : List ℕ) → IsOne (StepRecord Ample n bytes)
+record_one n bytes s a b t u p q =
+    let same = answered_one s bytes p.reply q.reply p.after q.after p.answered q.answered in
+    let outs : frame_for n p.reply ≡ frame_for n q.reply = ap (frame_for n) same.0 in (
+      p.answers ∙ ap (λ (f : OutFrame). f ∷ []) outs ∙ sym q.answers,
+      p.leads ∙ ap (λ (r : Option (List ℕ)). after_reply n r (with_history s p.after)) same.0 ∙ ap (λ (h : History). after_reply n q.reply (with_history s h)) same.1 ∙ sym q.leads,
+    )
 
 module _ (First Second : State → List OutFrame → State → Type 0) where
   pub then_one : IsOne First → IsOne Second → IsOne (Then First Second)
@@ -140,11 +151,11 @@ module _ (Does : State → List OutFrame → State → Type 0) where
         | inr e ↦ passes_one s a b t u (of_closed Does n s a t e p) (of_closed Does n s b u e q)
       ]
 
-pub records_one : (n : ℕ) (records : List (List ℕ)) → IsOne (StepRecords n records)
+pub records_one : (n : ℕ) (records : List (List ℕ)) → IsOne (StepRecords Ample n records)
 records_one n [] s a b t u p q = passes_one s a b t u p q
 records_one n (bytes ∷ records) s a b t u p q =
-    let First : State → List OutFrame → State → Type 0 = StepMessage n (meaning_of bytes) in
-    where_open_one (Then First (StepRecords n records)) n (then_one First (StepRecords n records) (message_one n (meaning_of bytes)) (records_one n records)) s a b t u p q
+    let First : State → List OutFrame → State → Type 0 = StepRecord Ample n bytes in
+    where_open_one (Then First (StepRecords Ample n records)) n (then_one First (StepRecords Ample n records) (record_one n bytes) (records_one n records)) s a b t u p q
 
 pub progress_one : (n : ℕ) (progress : Progress) → IsOne (StepProgress n progress)
 progress_one n (AtHeader part) s a b t u p q = passes_one s a b t u p q

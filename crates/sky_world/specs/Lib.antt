@@ -1,7 +1,9 @@
 pub mod Bytes
 pub mod Feeding
+pub mod Laws
 pub mod Meaning
 pub mod Message
+pub mod Service
 pub mod Sessions
 pub mod Values
 pub mod World

@@ -8,7 +8,7 @@
 --   6. the version is not 3: refused;
 --   7. the program has no such procedure: refused;
 --   8. the arguments are not the procedure's: refused; else it is a call of MOUNT or of NFS.
-use Rattle.std.specs.Prelude.{ℕ, List, Result, Ok, Err, not, ◌==◌, nat_lt, if◌then◌else◌}
+use Rattle.std.specs.Prelude.{◌≡◌, ℕ, ◌<◌, List, Result, Ok, Err, not, ◌==◌, if◌then◌else◌}
 use Rattle.sky_base.specs.declared.cred.Cred.{Cred}
 use Rattle.sky_nfs.specs.declared.call.Call.{Call}
 use Rattle.sky_rpc.specs.Call.{CallMessage}
@@ -45,9 +45,9 @@ mount_program = 100005
 abbrev pub served_version : ℕ
 served_version = 3
 
--- how many procedures of NFS are served so far, from NULL on: NULL and GETATTR
-abbrev pub served_procedures : ℕ
-served_procedures = 2
+-- how many procedures NFS has, from NULL on
+abbrev pub procedure_count : ℕ
+procedure_count = 22
 
 -- cases 1 to 4
 abbrev pub refused_call : RpcRefusal → Message
@@ -61,23 +61,17 @@ called_mount xid (Err fault.NoSuchProc) = Refused xid ProcUnavail
 called_mount xid (Err fault.Garbage) = Refused xid GarbageArgs
 called_mount xid (Ok call) = Mount xid call
 
--- case 8 of NFS
-abbrev pub called_procedure : ℕ → Cred → Result Call ArgRefusal → Message
-called_procedure xid cred (Err args.NoSuchProc) = Refused xid ProcUnavail
-called_procedure xid cred (Err args.Garbage) = Refused xid GarbageArgs
-called_procedure xid cred (Ok call) = Nfs xid cred call
-
--- cases 7 and 8 of NFS. A procedure that is not served yet is unavailable, whatever its arguments are
-abbrev pub called_nfs : CallMessage → Message
-called_nfs c =
-    if nat_lt c.procedure served_procedures then called_procedure c.xid c.cred (args.args_at c.procedure c.args)
-    else Refused c.xid ProcUnavail
+-- cases 7 and 8 of NFS
+abbrev pub called_nfs : ℕ → Cred → Result Call ArgRefusal → Message
+called_nfs xid cred (Err args.NoSuchProc) = Refused xid ProcUnavail
+called_nfs xid cred (Err args.Garbage) = Refused xid GarbageArgs
+called_nfs xid cred (Ok call) = Nfs xid cred call
 
 -- cases 6 to 8
 abbrev pub called_version : CallMessage → Message
 called_version c =
     if not (c.version == served_version) then Refused c.xid ProgMismatch
-    else (if c.program == mount_program then called_mount c.xid (mount.args_at c.procedure c.args) else called_nfs c)
+    else (if c.program == mount_program then called_mount c.xid (mount.args_at c.procedure c.args) else called_nfs c.xid c.cred (args.args_at c.procedure c.args))
 
 -- cases 5 to 8
 abbrev pub called_program : CallMessage → Message
@@ -93,3 +87,9 @@ message_of (Ok call) = called_program call
 -- what a record means
 unfoldable pub meaning_of : List ℕ → Message
 meaning_of bytes = message_of (call_at bytes)
+
+-- A call is one of a procedure of NFS: it passes cases 5 to 7.
+pub record IsServed (call : CallMessage) : Type 0 where
+  pub program : call.program ≡ nfs_program
+  pub version : call.version ≡ served_version
+  pub procedure : call.procedure < procedure_count

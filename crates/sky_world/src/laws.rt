@@ -2,31 +2,59 @@
 
 ghost use Rattle.std.specs.Prelude.{◌≡◌, ℕ, List, ◌++◌};
 ghost use Rattle.std.specs.List.{AllByRecursion};
-ghost use Rattle.sky_script.specs.Frame.{InFrame, Bytes, OutFrame};
+ghost use Rattle.sky_nfs.specs.History.{IsLegalHistory};
+ghost use Rattle.sky_base.specs.declared.moment.Moment.{Moment};
+ghost use Rattle.sky_script.specs.Frame.{InFrame, Begin, Bytes, Close, SetMoment, OutFrame};
 ghost use Rattle.sky_world.specs.Bytes.{AreBytes, HasByteStreams, CarriesBytes};
-ghost use Rattle.sky_world.specs.Meaning.{State, start, Step, Steps, IsStep};
+ghost use Rattle.sky_world.specs.Laws.{GoesOnFrom, NoneOutOfMemory};
+ghost use Rattle.sky_world.specs.Meaning.{State, Memory, Ample, Scarce, start, Step, Steps, IsStep};
 
-/// Each frame but the end has a step in each state, and only one: the answers and the next state are determined.
+/// Each frame but the end has a step in each state, and only one where there is memory for every call: the answers and the
+/// next state are determined. Such a step is among those that may come where memory is scarce, and it is any of those
+/// whose answers do not tell a want of memory.
 pub fn each_frame_has_one_step()
-    ensures some { (old : State) (frame : InFrame) → HasByteStreams old → CarriesBytes frame → IsStep frame
-        → (outs : List OutFrame) × (new : State) × HasByteStreams new × Step old frame outs new }
+    ensures some { (memory : Memory) (old : State) (frame : InFrame) → HasByteStreams old → CarriesBytes frame → IsStep frame
+        → (outs : List OutFrame) × (new : State) × HasByteStreams new × Step memory old frame outs new }
     ensures one { (old : State) (frame : InFrame) (outs others : List OutFrame) (new other : State)
-        → Step old frame outs new → Step old frame others other → (outs ≡ others) × (new ≡ other) }
+        → Step Ample old frame outs new → Step Ample old frame others other → (outs ≡ others) × (new ≡ other) }
+    ensures may { (old new : State) (frame : InFrame) (outs : List OutFrame) → Step Ample old frame outs new → Step Scarce old frame outs new }
+    ensures told { (old new : State) (frame : InFrame) (outs : List OutFrame)
+        → Step Scarce old frame outs new → NoneOutOfMemory outs → Step Ample old frame outs new }
 {}
 
-/// From the start on frames have steps, whichever they are, and one way of them.
+/// From the start on frames have steps, whichever they are, and one way of them where there is memory for every call. Two
+/// recordings of the same frames whose answers do not tell a want of memory have the same answers.
 pub fn each_recording_has_one_meaning()
-    ensures some { (frames : List InFrame) → AllByRecursion (λ frame. IsStep frame × CarriesBytes frame) frames
-        → (outs : List OutFrame) × (last : State) × Steps start frames outs last }
+    ensures some { (memory : Memory) (frames : List InFrame) → AllByRecursion (λ frame. IsStep frame × CarriesBytes frame) frames
+        → (outs : List OutFrame) × (last : State) × Steps memory start frames outs last }
     ensures one { (frames : List InFrame) (outs others : List OutFrame) (last other : State)
-        → Steps start frames outs last → Steps start frames others other → (outs ≡ others) × (last ≡ other) }
+        → Steps Ample start frames outs last → Steps Ample start frames others other → (outs ≡ others) × (last ≡ other) }
+    ensures told { (frames : List InFrame) (outs others : List OutFrame) (last other : State)
+        → Steps Scarce start frames outs last → NoneOutOfMemory outs → Steps Scarce start frames others other → NoneOutOfMemory others
+        → (outs ≡ others) × (last ≡ other) }
 {}
 
 /// How a session's bytes are cut into frames does not matter: what two frames give, one after the other, one frame with the
 /// bytes of both gives.
 pub fn cuts_do_not_matter()
-    ensures { (old mid new : State) (session : ℕ) (first second : List ℕ) (outs further : List OutFrame)
+    ensures { (memory : Memory) (old mid new : State) (session : ℕ) (first second : List ℕ) (outs further : List OutFrame)
         → HasByteStreams old → AreBytes first → AreBytes second
-        → Step old (Bytes session first) outs mid → Step mid (Bytes session second) further new
-        → Step old (Bytes session (first ++ second)) (outs ++ further) new }
+        → Step memory old (Bytes session first) outs mid → Step memory mid (Bytes session second) further new
+        → Step memory old (Bytes session (first ++ second)) (outs ++ further) new }
+{}
+
+/// There is one history: it is legal at the start and after each frame, each frame adds its changes behind those of the
+/// frames before it, whichever sessions they are of, and only a frame with a session's bytes adds any.
+pub fn there_is_one_history()
+    ensures begins { IsLegalHistory start.history }
+    ensures legal { (memory : Memory) (old new : State) (frame : InFrame) (outs : List OutFrame)
+        → Step memory old frame outs new → IsLegalHistory old.history → IsLegalHistory new.history }
+    ensures goes_on { (memory : Memory) (old new : State) (frame : InFrame) (outs : List OutFrame)
+        → Step memory old frame outs new → GoesOnFrom old.history new.history }
+    ensures begin { (memory : Memory) (old new : State) (session : ℕ) (outs : List OutFrame)
+        → Step memory old (Begin session) outs new → new.history ≡ old.history }
+    ensures close { (memory : Memory) (old new : State) (session : ℕ) (outs : List OutFrame)
+        → Step memory old (Close session) outs new → new.history ≡ old.history }
+    ensures moment { (memory : Memory) (old new : State) (at : Moment) (outs : List OutFrame)
+        → Step memory old (SetMoment at) outs new → new.history ≡ old.history }
 {}

@@ -15,6 +15,8 @@ enum Event {
     Begin,
     Bytes(&'static [u8]),
     Close,
+    /// The moment is now this many seconds and nanoseconds, in each session.
+    SetMoment(u32, u32),
 }
 
 /// What happens, to which session; and the frames that answer it, each with its kind, its session and its payload.
@@ -70,7 +72,32 @@ const MOUNT: &[u8] = b"\x80\0\0\x28\0\0\0\x03\0\0\0\0\0\0\0\x02\0\x01\x86\xa5\0\
     \x80\0\0\x28\0\0\0\x07\0\0\0\0\0\0\0\x02\0\x01\x86\xa5\0\0\0\x03\
     \0\0\0\x06\0\0\0\0\0\0\0\0\0\0\0\0\0\0\0\0";
 
-static CASES: [Case; 7] = [
+/// CREATE of `a` in the root, UNCHECKED and without attributes.
+const CREATE: &[u8] = b"\x80\0\0`\0\0\0\x01\0\0\0\0\0\0\0\x02\0\x01\x86\xa3\0\0\0\x03\0\0\0\x08\
+    \0\0\0\0\0\0\0\0\0\0\0\0\0\0\0\0\
+    \0\0\0\x10\0\0\0\0\0\0\0\x01\0\0\0\0\0\0\0\x01\
+    \0\0\0\x01a\0\0\0\
+    \0\0\0\0\0\0\0\0\0\0\0\0\0\0\0\0\0\0\0\0\0\0\0\0\0\0\0\0";
+
+/// GETATTR of the file 2.
+const GETATTR: &[u8] = b"\x80\0\0<\0\0\0\x02\0\0\0\0\0\0\0\x02\0\x01\x86\xa3\0\0\0\x03\0\0\0\x01\
+    \0\0\0\0\0\0\0\0\0\0\0\0\0\0\0\0\
+    \0\0\0\x10\0\0\0\0\0\0\0\x01\0\0\0\0\0\0\0\x02";
+
+/// MKDIR of `a` in the root.
+const MKDIR: &[u8] = b"\x80\0\0\x5c\0\0\0\x03\0\0\0\0\0\0\0\x02\0\x01\x86\xa3\0\0\0\x03\0\0\0\x09\
+    \0\0\0\0\0\0\0\0\0\0\0\0\0\0\0\0\
+    \0\0\0\x10\0\0\0\0\0\0\0\x01\0\0\0\0\0\0\0\x01\
+    \0\0\0\x01a\0\0\0\
+    \0\0\0\0\0\0\0\0\0\0\0\0\0\0\0\0\0\0\0\0\0\0\0\0";
+
+/// REMOVE of `a` in the root.
+const REMOVE: &[u8] = b"\x80\0\0D\0\0\0\x04\0\0\0\0\0\0\0\x02\0\x01\x86\xa3\0\0\0\x03\0\0\0\x0c\
+    \0\0\0\0\0\0\0\0\0\0\0\0\0\0\0\0\
+    \0\0\0\x10\0\0\0\0\0\0\0\x01\0\0\0\0\0\0\0\x01\
+    \0\0\0\x01a\0\0\0";
+
+static CASES: [Case; 8] = [
     // Two sessions, in turns; the record of session 0 ends first.
     (
         &[
@@ -197,6 +224,71 @@ static CASES: [Case; 7] = [
             ),
         ],
     ),
+    // A call has the moment of the last frame 4 before it, whichever session it is of, and both sessions have one tree: a file
+    // that one has made is there for the other, at its old times, and one that was removed is there for neither.
+    (
+        &[
+            (4, Event::Begin),
+            (5, Event::Begin),
+            (0, Event::SetMoment(5, 6)),
+            (0, Event::SetMoment(7, 5)),
+            (4, Event::Bytes(CREATE)),
+            (0, Event::SetMoment(8, 0)),
+            (5, Event::Bytes(GETATTR)),
+            (5, Event::Bytes(MKDIR)),
+            (5, Event::Bytes(REMOVE)),
+            (4, Event::Bytes(GETATTR)),
+        ],
+        &[
+            // The handle, the attributes of the file, and the root before and after.
+            (
+                2,
+                4,
+                b"\x80\0\x01\0\0\0\0\x01\0\0\0\x01\0\0\0\0\0\0\0\0\0\0\0\0\0\0\0\0\0\0\0\0\
+                    \0\0\0\x01\0\0\0\x10\0\0\0\0\0\0\0\x01\0\0\0\0\0\0\0\x02\
+                    \0\0\0\x01\0\0\0\x01\0\0\x01\xa4\0\0\0\x01\0\0\xff\xfe\0\0\xff\xfe\0\0\0\0\0\0\0\0\
+                    \0\0\0\0\0\0\0\0\0\0\0\0\0\0\0\0\0\0\0\0\0\0\0\x01\0\0\0\0\0\0\0\x02\
+                    \0\0\0\x07\0\0\0\x05\0\0\0\x07\0\0\0\x05\0\0\0\x07\0\0\0\x05\0\0\0\x01\
+                    \0\0\0\0\0\0\0\0\0\0\0\0\0\0\0\0\0\0\0\0\0\0\0\0\0\0\0\x01\
+                    \0\0\0\x02\0\0\x01\xff\0\0\0\x02\0\0\0\0\0\0\0\0\0\0\0\0\0\0\0\x13\0\0\0\0\
+                    \0\0\0\x13\0\0\0\0\0\0\0\0\0\0\0\0\0\0\0\x01\0\0\0\0\0\0\0\x01\0\0\0\0\
+                    \0\0\0\0\0\0\0\x07\0\0\0\x05\0\0\0\x07\0\0\0\x05",
+            ),
+            (
+                2,
+                5,
+                b"\x80\0\0p\0\0\0\x02\0\0\0\x01\0\0\0\0\0\0\0\0\0\0\0\0\0\0\0\0\0\0\0\0\
+                    \0\0\0\x01\0\0\x01\xa4\0\0\0\x01\0\0\xff\xfe\0\0\xff\xfe\0\0\0\0\0\0\0\0\
+                    \0\0\0\0\0\0\0\0\0\0\0\0\0\0\0\0\0\0\0\0\0\0\0\x01\0\0\0\0\0\0\0\x02\
+                    \0\0\0\x07\0\0\0\x05\0\0\0\x07\0\0\0\x05\0\0\0\x07\0\0\0\x05",
+            ),
+            // NFS3ERR_EXIST is 17.
+            (
+                2,
+                5,
+                b"\x80\0\0\x90\0\0\0\x03\0\0\0\x01\0\0\0\0\0\0\0\0\0\0\0\0\0\0\0\0\0\0\0\x11\
+                    \0\0\0\x01\0\0\0\0\0\0\0\x13\0\0\0\x07\0\0\0\x05\0\0\0\x07\0\0\0\x05\
+                    \0\0\0\x01\0\0\0\x02\0\0\x01\xff\0\0\0\x02\0\0\0\0\0\0\0\0\0\0\0\0\0\0\0\x13\
+                    \0\0\0\0\0\0\0\x13\0\0\0\0\0\0\0\0\0\0\0\0\0\0\0\x01\0\0\0\0\0\0\0\x01\
+                    \0\0\0\0\0\0\0\0\0\0\0\x07\0\0\0\x05\0\0\0\x07\0\0\0\x05",
+            ),
+            (
+                2,
+                5,
+                b"\x80\0\0\x90\0\0\0\x04\0\0\0\x01\0\0\0\0\0\0\0\0\0\0\0\0\0\0\0\0\0\0\0\0\
+                    \0\0\0\x01\0\0\0\0\0\0\0\x13\0\0\0\x07\0\0\0\x05\0\0\0\x07\0\0\0\x05\
+                    \0\0\0\x01\0\0\0\x02\0\0\x01\xff\0\0\0\x02\0\0\0\0\0\0\0\0\0\0\0\0\0\0\0\0\
+                    \0\0\0\0\0\0\0\0\0\0\0\0\0\0\0\0\0\0\0\0\0\0\0\x01\0\0\0\0\0\0\0\x01\
+                    \0\0\0\0\0\0\0\0\0\0\0\x08\0\0\0\0\0\0\0\x08\0\0\0\0",
+            ),
+            // NFS3ERR_STALE is 70.
+            (
+                2,
+                4,
+                b"\x80\0\0\x1c\0\0\0\x02\0\0\0\x01\0\0\0\0\0\0\0\0\0\0\0\0\0\0\0\0\0\0\0\x46",
+            ),
+        ],
+    ),
 ];
 
 /// Does a frame.
@@ -231,6 +323,17 @@ fn happen(
             step(alloc, world, &Frame::Bytes { session, payload }, sink)
         }
         Event::Close => step(alloc, world, &Frame::Close { session }, sink),
+        Event::SetMoment(seconds, nanos) => {
+            if nanos >= 1_000_000_000 {
+                return Err("no such moment".into());
+            }
+            step(
+                alloc,
+                world,
+                &Frame::SetMoment(Moment { seconds, nanos }),
+                sink,
+            )
+        }
     }
 }
 
@@ -288,8 +391,8 @@ fn records_cut_anywhere(rt: HostRuntime) -> Result<(), Fail> {
 #[test]
 fn a_write_that_fails_ends_the_world(rt: HostRuntime) -> Result<(), Fail> {
     let alloc = rt.alloc();
-    // The opening is two writes, and so is a reply.
-    let fail = Vec::from_slice(alloc, &[5])?;
+    // The opening is two writes, and a reply is one.
+    let fail = Vec::from_slice(alloc, &[3])?;
     let mut sink = MemSink::new(alloc, 4096, fail).map_err(|_| "no memory")?;
     let mut world = World::start(alloc, &mut sink).map_err(|_| "no world")?;
     happen(alloc, &mut world, 0, Event::Begin, &mut sink)?;

@@ -1,22 +1,21 @@
 //! What the proxy is in between two frames, and what a frame does to it.
 
-ghost use Rattle.std.specs.Prelude.{◌≡◌, ◌<◌, ◌≤◌, ◌⊎◌, ℕ, Bool, true, false, List, [], ◌++◌, length, take, IfOk, IfErr, OnOk, OnErr, IsErr, IsErrOf, is_err, is_some, slice_index_or, slice_set};
+ghost use Rattle.std.specs.Prelude.{◌≡◌, ◌<◌, ◌≤◌, ◌⊎◌, ℕ, Bool, true, false, List, [], ◌++◌, Option, length, take, IfOk, IfErr, OnOk, OnErr, IsErr, IsErrOf, is_err, is_some, slice_index_or, slice_set};
 ghost use Rattle.sky_outside.specs.Count.{Counts};
 ghost use Rattle.sky_outside.specs.Told.{Given, GivenPart};
 ghost use Rattle.sky_record.specs.Stream.{Received, IsOpen, nothing};
 ghost use Rattle.sky_script.specs.Frame as frames;
 ghost use Rattle.sky_script.specs.Frame.{IsInFrame, out_frame, out_frames, session_count};
 ghost use Rattle.sky_script.specs.Values.{frame_of};
-ghost use Rattle.sky_world.specs.Feeding.{reply_to, frame_for, Feeds, Handled, HandledPart};
-ghost use Rattle.sky_world.specs.Meaning.{start as opened, opening, IsStep};
-ghost use Rattle.sky_world.specs.Message.{meaning_of};
+ghost use Rattle.sky_world.specs.Feeding.{Serves, Feeds, Handled, HandledPart};
+ghost use Rattle.sky_world.specs.Meaning.{start as opened, opening, frame_for, IsStep};
+ghost use Rattle.sky_world.specs.Service as spec;
 ghost use Rattle.sky_world.specs.Sessions.{IsReady, closed};
 ghost use Rattle.sky_world.specs.World.{Stands, Stepped, SteppedPart, BeginsFirst, opened_world};
 
-use crate::VOLUME;
 use crate::reply::ReplyBuf;
+use crate::service::{FIRST_EPOCH, Service};
 use crate::sessions::{Session, Sessions};
-use crate::tree::EmptyTree;
 use sky_base::{Moment, NoMemory, Status};
 use sky_outside::{Failed, Sink};
 use sky_record::{Assembler, Fed};
@@ -24,35 +23,24 @@ use sky_script::{Frame, OutFrame, write_out_frame};
 use std::alloc::Global;
 use std::marker::Model;
 
-/// The number of the first opening.
-const FIRST_EPOCH: u64 = 1;
-
-/// The moment before the first that is set: the beginning of 1970.
-const FIRST_MOMENT: Moment = Moment {
-    seconds: 0,
-    nanos: 0,
-};
-
 /// Answers a record of a session: gives the reply to it, or closes the session. Says whether the session stays open.
 fn answer_record<K: Sink>(
     alloc: Global,
-    tree: &EmptyTree,
+    service: &mut Service,
     buf: &mut ReplyBuf,
     session: u32,
     text: &[u8],
     sink: &mut K,
 ) -> Result<bool, Failed>
-    ensures stays { IfOk result (λ stays. stays ≡ is_some (reply_to tree.now (meaning_of text.now))) }
-    ensures ok { OnOk result (Given (K.written sink.old) (K.written sink.new)
-        (out_frame (frame_for session (reply_to tree.now (meaning_of text.now))))) }
-    ensures partly { OnErr result (GivenPart (K.written sink.old) (K.written sink.new)
-        (out_frame (frame_for session (reply_to tree.now (meaning_of text.now))))) }
+    ensures ok { IfOk result (λ stays. (reply : Option (List ℕ)) × Serves service.old text.now reply service.new × (stays ≡ is_some reply)
+        × Given (K.written sink.old) (K.written sink.new) (out_frame (frame_for session reply))) }
+    ensures partly { OnErr result ((reply : Option (List ℕ)) × (after : spec.Service) × Serves service.old text.now reply after
+        × GivenPart (K.written sink.old) (K.written sink.new) (out_frame (frame_for session reply))) }
     ensures cause { Counts (K.faults sink.old) (K.faults sink.new) (IsErr result) }
 {
-    match buf.write(alloc, tree, text) {
+    match buf.write(alloc, service, text) {
         Some(count) => {
-            let bytes = buf.first(count);
-            write_out_frame(sink, &OutFrame::Reply { session, bytes })?;
+            buf.give(session, count, sink)?;
             Ok(true)
         }
         None => {
@@ -66,7 +54,7 @@ fn answer_record<K: Sink>(
 /// Says how many bytes it took, and whether the session stays open.
 fn feed_once<K: Sink>(
     alloc: Global,
-    tree: &EmptyTree,
+    service: &mut Service,
     buf: &mut ReplyBuf,
     session: u32,
     assembler: &mut Assembler,
@@ -78,10 +66,10 @@ fn feed_once<K: Sink>(
     ensures some { IfOk result (λ r. 0 < length piece.now → 0 < r.0) }
     ensures ready { IfOk result (λ r. r.1 ≡ true → IsOpen assembler.new.progress) }
     ensures ok { IfOk result (λ r. (outs : List frames.OutFrame)
-        × Feeds session tree.now assembler.old assembler.new (take r.0 piece.now) outs r.1
+        × Feeds session service.old assembler.old (take r.0 piece.now) outs r.1 service.new assembler.new
         × Given (K.written sink.old) (K.written sink.new) (out_frames outs)) }
-    ensures partly { OnErr result ((count : ℕ) × (new : Received) × (outs : List frames.OutFrame) × (stays : Bool)
-        × Feeds session tree.now assembler.old new (take count piece.now) outs stays
+    ensures partly { OnErr result ((count : ℕ) × (after : spec.Service) × (new : Received) × (outs : List frames.OutFrame) × (stays : Bool)
+        × Feeds session service.old assembler.old (take count piece.now) outs stays after new
         × GivenPart (K.written sink.old) (K.written sink.new) (out_frames outs)) }
     ensures cause { Counts (K.faults sink.old) (K.faults sink.new) (IsErr result) }
 {
@@ -89,7 +77,7 @@ fn feed_once<K: Sink>(
     match fed {
         Fed::More => Ok((taken, true)),
         Fed::Message => {
-            let stays = answer_record(alloc, tree, buf, session, assembler.message(), sink)?;
+            let stays = answer_record(alloc, service, buf, session, assembler.message(), sink)?;
             assembler.clear();
             Ok((taken, stays))
         }
@@ -104,7 +92,7 @@ fn feed_once<K: Sink>(
 /// Behind the record at which the session is closed nothing is looked at. Answers what the session then is.
 fn feed_payload<K: Sink>(
     alloc: Global,
-    tree: &EmptyTree,
+    service: &mut Service,
     buf: &mut ReplyBuf,
     session: u32,
     mut assembler: Assembler,
@@ -113,16 +101,16 @@ fn feed_payload<K: Sink>(
 ) -> Result<Session, Failed>
     requires ready { IsOpen assembler.progress }
     ensures ready { IfOk result IsReady }
-    ensures ok { IfOk result (λ next. Handled session tree.now assembler payload.now next
+    ensures ok { IfOk result (λ next. Handled session service.old assembler payload.now service.new next
         (K.written sink.old) (K.written sink.new)) }
-    ensures partly { OnErr result (HandledPart session tree.now assembler payload.now
+    ensures partly { OnErr result (HandledPart session service.old assembler payload.now
         (K.written sink.old) (K.written sink.new)) }
     ensures cause { Counts (K.faults sink.old) (K.faults sink.new) (IsErr result) }
 {
     let mut taken = 0;
     while taken < payload.len() {
         let piece = &payload[taken..];
-        let (count, stays) = feed_once(alloc, tree, buf, session, &mut assembler, piece, sink)?;
+        let (count, stays) = feed_once(alloc, service, buf, session, &mut assembler, piece, sink)?;
         if !stays {
             return Ok(Session::Closed(assembler));
         }
@@ -133,13 +121,11 @@ fn feed_payload<K: Sink>(
 
 /// The proxy between two frames of a recorded session.
 ///
-/// It has the buffers of its sessions and one for a reply, each of 131,072 bytes. A session's buffer is reserved when it
+/// It has the file tree, the buffers of its sessions and one for a reply, each of 131,072 bytes. A session's buffer is reserved when it
 /// first begins, and is used again when it begins anew.
 #[derive(Drop)]
 pub struct World {
-    epoch: u64,
-    tree: EmptyTree,
-    moment: Moment,
+    service: Service,
     sessions: Sessions,
     buf: ReplyBuf,
     ended: bool,
@@ -150,7 +136,7 @@ impl Model for World {
 
     ghost Value = { WorldView };
 
-    ghost view = { λ w. record { epoch = w.epoch; tree = w.tree; moment = w.moment; sessions = w.sessions; ended = w.ended } };
+    ghost view = { λ w. record { service = w.service; sessions = w.sessions; ended = w.ended } };
 }
 
 impl World {
@@ -159,9 +145,7 @@ impl World {
         ensures { IfOk result (λ world. world ≡ opened_world) }
     {
         Ok(World {
-            epoch: FIRST_EPOCH,
-            tree: EmptyTree::new(VOLUME),
-            moment: FIRST_MOMENT,
+            service: Service::new(alloc)?,
             sessions: Sessions::new(alloc)?,
             buf: ReplyBuf::new(alloc)?,
             ended: false,
@@ -170,7 +154,7 @@ impl World {
 
     /// Opens: the first epoch, the empty tree, and no session has begun. Writes the frame that says so.
     ///
-    /// `Memory` where there is no memory for the buffer of a reply and the list of sessions; nothing is written then.
+    /// `Memory` where there is no memory for the empty tree, the buffer of a reply and the list of sessions; nothing is written then.
     /// `SinkFault` where a write failed; the sink was given a prefix of the frame then.
     pub fn start<K: Sink>(alloc: Global, sink: &mut K) -> Result<World, Status>
         ensures world { IfOk result (λ world. Stands world opened) }
@@ -241,7 +225,7 @@ impl World {
             Session::Open(assembler) => {
                 feed_payload(
                     alloc,
-                    &self.tree,
+                    &mut self.service,
                     &mut self.buf,
                     session,
                     assembler,
@@ -257,9 +241,9 @@ impl World {
 
     /// Sets the moment of the calls that follow.
     fn set_moment(&mut self, at: Moment)
-        ensures { self.new ≡ record self.old { moment = at } }
+        ensures { self.new ≡ record self.old { service = record self.old.service { moment = at } } }
     {
-        self.moment = at;
+        self.service.set_moment(at);
     }
 
     /// Does one frame, and writes its answers.

@@ -1,5 +1,6 @@
 use Rattle.sky_world.specs.Meaning.{start}
 use Rattle.sky_world.proofs.FrameLaws.{frames_some, frames_one}
+use Rattle.sky_world.proofs.HistoryLaws.{steps_told}
 use Rattle.sky_world.proofs.laws.each_recording_has_one_meaning.Goals as goal
 
 pub returns-clause-some : goal.returns-clause-some
@@ -7,3 +8,7 @@ returns-clause-some c = frames_some
 
 pub returns-clause-one : goal.returns-clause-one
 returns-clause-one c = frames_one start
+
+pub returns-clause-told : goal.returns-clause-told
+returns-clause-told c = λ frames outs others last other first none second no.
+    frames_one start frames outs others last other (steps_told start frames outs last first none) (steps_told start frames others other second no)

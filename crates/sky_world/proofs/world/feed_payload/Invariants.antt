@@ -4,7 +4,7 @@ use Rattle.sky_world.proofs.world.feed_payload.Given as goal
 
 abbrev pub invariant-loop-taken : goal.invariant-loop-taken
 invariant-loop-taken g l = record {
-  so_far : SoFar l.session l.tree l.initial.assembler l.payload l.taken l.assembler (g.K.Sink.written l.initial.sink) (g.K.Sink.written l.sink);
+  so_far : SoFar l.session l.initial.service l.initial.assembler l.payload l.taken l.service l.assembler (g.K.Sink.written l.initial.sink) (g.K.Sink.written l.sink);
   quiet : g.K.Sink.faults l.sink ≡ g.K.Sink.faults l.initial.sink;
 }
 

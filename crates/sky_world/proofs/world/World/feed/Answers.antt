@@ -9,13 +9,13 @@ use Rattle.sky_world.proofs.StandLaws.{stepped_open, stepped_passed}
 pub returns-clause-ok : goal.returns-clause-ok
 returns-clause-ok g c =
     let i = c.self.inside in
-    let world : WorldView = record { epoch = i.epoch; tree = i.tree; moment = i.moment; sessions = i.sessions; ended = i.ended } in
+    let world : WorldView = record { service = i.service; sessions = i.sessions; ended = i.ended } in
     let n = c.args.session in
     elim c.match-take.branch [
       | in-Open+in_ok-next-in-Open w ↦
           let slot = sym c.take.ensures.taken ∙ w.in-Open.is in
           let next = w.in_ok-next-in-Open.next in
-          let step = stepped_open world n c.args.payload.now c.requires (g.K.Sink.written c.args.sink.now) (g.K.Sink.written w.feed_payload.new.sink) w.in-Open.assembler next slot w.in_ok-next-in-Open.ensures.ok in
+          let step = stepped_open world n c.args.payload.now c.requires (g.K.Sink.written c.args.sink.now) (g.K.Sink.written w.feed_payload.new.sink) w.in-Open.assembler w.feed_payload.new.service next slot w.in_ok-next-in-Open.ensures.ok in
           rw (← c.self.view_is, c.put.ensures, w.sink-is, w.next-is, w.self-inside-is, c.take.ensures.left, set-set i.sessions n Absent next) step
       | in_default w ↦
           let step = stepped_passed world n c.args.payload.now c.requires (g.K.Sink.written c.args.sink.now) (g.K.Sink.written c.args.sink.now) c.take.result (sym c.take.ensures.taken) w.in_default.not-Open in

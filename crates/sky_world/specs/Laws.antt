@@ -1,0 +1,21 @@
+-- What the laws of recorded sessions speak of.
+use Rattle.std.specs.Prelude.{◌≡◌, ℕ, List, ◌++◌}
+use Rattle.std.specs.List.{AllByRecursion}
+use Rattle.sky_nfs.specs.History.{History}
+use Rattle.sky_nfs.specs.declared.call.Change.{Change}
+use Rattle.sky_rpc.specs.Reply.{reply_record}
+use Rattle.sky_script.specs.Frame.{OutFrame, Reply}
+use Rattle.sky_world.specs.Service.{reply_without_memory}
+
+-- a frame tells a session that there was no memory for a call
+abbrev pub TellsOutOfMemory : OutFrame → Type 0
+TellsOutOfMemory (Reply number bytes) = (xid procedure : ℕ) × (bytes ≡ reply_record xid (reply_without_memory procedure))
+TellsOutOfMemory _ = ⊥
+
+-- none of the frames does
+abbrev pub NoneOutOfMemory : List OutFrame → Type 0
+NoneOutOfMemory outs = AllByRecursion (λ out. TellsOutOfMemory out → ⊥) outs
+
+-- a history goes on from another: it has further changes behind the other's
+abbrev pub GoesOnFrom : History → History → Type 0
+GoesOnFrom old new = (more : List Change) × (new ≡ record old { changes = old.changes ++ more })
