@@ -15,13 +15,13 @@ use Rattle.sky_script.specs.Frame.{InFrame, Begin, Bytes, Close, SetMoment, End,
 use Rattle.sky_script.specs.Beginning.{IsRefused, IsCutShort, within_header, with_frame, with_refused, cut_short}
 use Rattle.sky_script.proofs.FrameLaws.{in_frame_bound, frame-parts}
 use Rattle.sky_script.proofs.Beginnings.{begins}
-use Rattle.sky_world.specs.Meaning.{State, start, Absent, Step, Steps, IsStep}
+use Rattle.sky_world.specs.Meaning.{State, Ample, start, Absent, Step, Steps, IsStep}
 use Rattle.sky_world.specs.Bytes.{HasBytes, HasByteStreams, CarriesBytes}
 use Rattle.sky_world.proofs.FrameLaws.{step_some}
 use Rattle.sky_world.proofs.PayloadLaws.{are_bytes}
 use Rattle.sky_world.proofs.SessionLaws.{all-replicate}
 use Rattle.bluesky.specs.Run.{frame_limit, Handled, recording, Took, other_magic, no_frame, within_magic, within_frame, IsReading, HasOneReading}
-use Rattle.bluesky.proofs.OneReading.{one_reading}
+use Rattle.bluesky.proofs.OneReading.{one_reading, any_reading, told_reading}
 
 -- ---- what a frame carries
 
@@ -72,7 +72,7 @@ record ReadsFrom (s : State) (budget : ℕ) (left : List ℕ) : Type 0 where
   answers : List OutFrame
   last : State
   formed : AllByRecursion IsInFrame frames
-  steps : Steps s frames answers last
+  steps : Steps Ample s frames answers last
   stops : StopsFrom budget frames left
 
 -- that handles nothing
@@ -90,7 +90,7 @@ stops_on budget f frames left rest e (cut few taken short is) =
 stops_on budget f frames left rest e (full all back is) =
     full (omega arith) back (e ∙ ap (λ (x : List ℕ). in_frame f ++ x) is ∙ sym (append_assoc (in_frame f) (in_frames frames) back))
 
-reads_on : (s t : State) (budget : ℕ) (f : InFrame) (outs : List OutFrame) (left rest : List ℕ) → IsInFrame f → Step s f outs t → left ≡ in_frame f ++ rest
+reads_on : (s t : State) (budget : ℕ) (f : InFrame) (outs : List OutFrame) (left rest : List ℕ) → IsInFrame f → Step Ample s f outs t → left ≡ in_frame f ++ rest
     → ReadsFrom t budget rest → ReadsFrom s (suc budget) left
 reads_on s t budget f outs left rest formed step e reads = record {
   frames = f ∷ reads.frames;
@@ -108,7 +108,7 @@ from_frame budget s left f rest formed e fits has next =
     elim (end_or_step f) [
       | inl end ↦ reads_none s (suc budget) left (ends (omega arith) rest (e ∙ ap (λ (x : InFrame). in_frame x ++ rest) end))
       | inr steps ↦
-          let step = step_some s f has (payload_bytes f rest (subst AreBytes e fits)) steps in
+          let step = step_some Ample s f has (payload_bytes f rest (subst AreBytes e fits)) steps in
           reads_on s step.1 budget f step.0 left rest formed step.3 e (next step.1 step.2)
     ]
 
@@ -134,7 +134,7 @@ reads_from (suc fuel) (suc budget) s left long fits has =
 -- a reading of some status
 abbrev HasReading : List ℕ → Type 0
 HasReading bytes =
-    (frames : List InFrame) × (answers : List OutFrame) × (last : State) × (status : Status) × (rest : List ℕ) × IsReading bytes frames answers last status rest
+    (frames : List InFrame) × (answers : List OutFrame) × (last : State) × (status : Status) × (rest : List ℕ) × IsReading Ample bytes frames answers last status rest
 
 -- what is told was taken
 took : (bytes taken rest : List ℕ) → bytes ≡ taken ++ rest → Took (record { had = Some bytes; left = Some rest }) taken
@@ -148,7 +148,7 @@ taken_behind bytes left frames next rest e is =
     (e ∙ ap (λ (x : List ℕ). magic ++ x) is ∙ sym (append_assoc magic (in_frames frames) (next ++ rest)) ∙ sym (append_assoc (magic ++ in_frames frames) next rest))
 
 behind_magic : (bytes left : List ℕ) (frames : List InFrame) (answers : List OutFrame) (last : State) → bytes ≡ magic ++ left → AllByRecursion IsInFrame frames
-    → Steps start frames answers last → StopsFrom frame_limit frames left → HasReading bytes
+    → Steps Ample start frames answers last → StopsFrom frame_limit frames left → HasReading bytes
 behind_magic bytes left frames answers last e formed steps (ends few rest is) =
     (frames, answers, last, Done, rest, record { handled = record { formed = formed; steps = steps }; read = (few, taken_behind bytes left frames (in_frame End) rest e is) })
 behind_magic bytes left frames answers last e formed steps (refused few taken rest no_one is) =
@@ -160,7 +160,7 @@ behind_magic bytes left frames answers last e formed steps (full all rest is) =
     (frames, answers, last, Long, rest, record { handled = record { formed = formed; steps = steps }; read = (all, taken_behind bytes left frames [] rest e is) })
 
 -- nothing was handled
-none_handled : Handled [] [] start
+none_handled : Handled Ample [] [] start
 none_handled = record { formed = tt; steps = (refl, refl) }
 
 -- bytes that are no magic, or too few for it
@@ -189,4 +189,4 @@ reading_exists bytes fits =
 
 -- a recording has a reading, and no two
 pub has_one_reading : (bytes : List ℕ) → HasOneReading bytes
-has_one_reading bytes = record { some = reading_exists bytes; one = one_reading bytes }
+has_one_reading bytes = record { some = reading_exists bytes; one = one_reading bytes; any = any_reading bytes; told = told_reading bytes }

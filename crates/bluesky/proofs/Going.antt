@@ -9,13 +9,13 @@ use Rattle.sky_outside.specs.Told.{Had, Given}
 use Rattle.sky_outside.proofs.ToldLaws.{Had-then, Had-none, Given-then, Given-none}
 use Rattle.sky_script.specs.Frame.{InFrame, OutFrame, IsInFrame, in_frame, in_frames, out_frame, out_frames, magic}
 use Rattle.sky_script.proofs.FrameLaws.{in_frame_bound}
-use Rattle.sky_world.specs.Meaning.{State, start, opening, Step, Steps}
+use Rattle.sky_world.specs.Meaning.{State, Scarce, start, opening, Step, Steps}
 use Rattle.bluesky.specs.Run.{Handled, recording, session_bytes}
 
 -- steps, and one more
-steps_then : (s : State) (fs : List InFrame) (answers : List OutFrame) (m : State) (f : InFrame) (outs : List OutFrame) (n : State) → Steps s fs answers m → Step m f outs n → Steps s (fs ++ f ∷ []) (answers ++ outs) n
+steps_then : (s : State) (fs : List InFrame) (answers : List OutFrame) (m : State) (f : InFrame) (outs : List OutFrame) (n : State) → Steps Scarce s fs answers m → Step Scarce m f outs n → Steps Scarce s (fs ++ f ∷ []) (answers ++ outs) n
 steps_then s [] answers m f outs n steps step =
-    let from = subst (λ (x : State). Step x f outs n) steps.1 step in
+    let from = subst (λ (x : State). Step Scarce x f outs n) steps.1 step in
     (n, outs, [], from, (refl, refl), ap (λ (x : List OutFrame). x ++ outs) steps.0 ∙ sym (append-nil outs))
 steps_then s (g ∷ fs) answers m f outs n steps step =
     let rest = steps_then steps.0 fs steps.2 m f outs n steps.4 step in
@@ -26,14 +26,14 @@ formed_then : (fs : List InFrame) (f : InFrame) → AllByRecursion IsInFrame fs 
 formed_then [] f all formed = (formed, tt)
 formed_then (g ∷ fs) f all formed = (all.0, formed_then fs f all.1 formed)
 
-handled_then : (fs : List InFrame) (answers : List OutFrame) (m : State) (f : InFrame) (outs : List OutFrame) (n : State) → Handled fs answers m → IsInFrame f → Step m f outs n → Handled (fs ++ f ∷ []) (answers ++ outs) n
+handled_then : (fs : List InFrame) (answers : List OutFrame) (m : State) (f : InFrame) (outs : List OutFrame) (n : State) → Handled Scarce fs answers m → IsInFrame f → Step Scarce m f outs n → Handled Scarce (fs ++ f ∷ []) (answers ++ outs) n
 handled_then fs answers m f outs n handled formed step = record {
   formed = formed_then fs f handled.formed formed;
   steps = steps_then start fs answers m f outs n handled.steps step;
 }
 
 -- nothing was handled
-pub nothing_handled : Handled [] [] start
+pub nothing_handled : Handled Scarce [] [] start
 nothing_handled = record { formed = tt; steps = (refl, refl) }
 
 -- ---- bytes
@@ -59,7 +59,7 @@ pub record Going (Stands : State → Type 0) (left_then left given_then given : 
   pub answers : List OutFrame
   pub state : State
   pub stands : Stands state
-  pub handled : Handled frames answers state
+  pub handled : Handled Scarce frames answers state
   pub read : Had left_then left (in_frames frames)
   pub written : Given given_then given (out_frames answers)
   pub count_is : length frames ≡ count
@@ -84,7 +84,7 @@ going_at_first Stands left given stands = record {
 -- what one frame does: from each state for which the world stood, it has a step, whose answers were given, to one for which it stands
 abbrev pub Goes : (State → Type 0) → (State → Type 0) → InFrame → Option (List ℕ) → Option (List ℕ) → Type 0
 Goes Stood Stands f before after =
-    (state : State) → Stood state → (outs : List OutFrame) × (next : State) × Step state f outs next × Stands next × Given before after (out_frames outs)
+    (state : State) → Stood state → (outs : List OutFrame) × (next : State) × Step Scarce state f outs next × Stands next × Given before after (out_frames outs)
 
 -- behind one frame more
 pub going_on : (Stood Stands : State → Type 0) (l0 l1 l2 g0 g1 g2 : Option (List ℕ)) (place count len : ℕ) (f : InFrame) → Going Stood l0 l1 g0 g1 place count

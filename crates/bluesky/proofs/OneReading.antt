@@ -8,7 +8,10 @@ use Rattle.sky_script.specs.Frame.{InFrame, OutFrame, End, in_frame, in_frames, 
 use Rattle.sky_script.specs.Beginning.{IsRefused, IsCutShort}
 use Rattle.sky_script.proofs.FrameLaws.{prefixes_same}
 use Rattle.sky_script.proofs.Beginnings.{frame_not_refused, frame_not_cut, refused_not_cut, refused_same}
-use Rattle.sky_world.specs.Meaning.{State, start}
+use Rattle.sky_world.specs.Laws.{NoneOutOfMemory}
+use Rattle.sky_world.specs.Meaning.{State, Memory as Supply, Ample, Scarce, start, Steps}
+use Rattle.sky_world.proofs.FrameLaws.{frames_one}
+use Rattle.sky_world.proofs.HistoryLaws.{steps_told}
 use Rattle.bluesky.specs.Run.{frame_limit, Handled, recording, SourceUse, Took, TookRefused, other_magic, no_frame, TookPart, within_magic, within_frame, AreFew, ReadTo, SinkUse, Ran, IsReading, IsFree, IsExact, IsReplayed}
 use Rattle.bluesky.proofs.Comparing.{GoesOn, Compares, are_one, first_on, second_on, compared, end_not_on, refused_not_on, cut_not_on}
 
@@ -79,11 +82,11 @@ stops_in Settings bytes frames rest read = absurd read
 -- ---- two ways to stop
 
 -- where a reading stops within the limit, none goes on
-stop_not_on : (frames : List InFrame) (s : State) (left rest : List ℕ) (status : Status) → AreFew frames → StopsAt frames left rest status → GoesOn s left → ⊥
-stop_not_on frames s left rest status less (at_end few end is) on = end_not_on s left rest end on
-stop_not_on frames s left rest status less (at_refused few taken refused parts is) on = refused_not_on s left taken rest refused parts on
-stop_not_on frames s left rest status less (at_cut few cut empty is) on = cut_not_on s left cut on
-stop_not_on frames s left rest status less (at_limit all same is) on = absurd (omega arith)
+stop_not_on : (frames : List InFrame) (left rest : List ℕ) (status : Status) → AreFew frames → StopsAt frames left rest status → GoesOn left → ⊥
+stop_not_on frames left rest status less (at_end few end is) on = end_not_on left rest end on
+stop_not_on frames left rest status less (at_refused few taken refused parts is) on = refused_not_on left taken rest refused parts on
+stop_not_on frames left rest status less (at_cut few cut empty is) on = cut_not_on left cut on
+stop_not_on frames left rest status less (at_limit all same is) on = absurd (omega arith)
 
 -- a reading that stops has no more frames than the limit
 at_most : (frames : List InFrame) (left rest : List ℕ) (status : Status) → StopsAt frames left rest status → length frames ≤ frame_limit
@@ -114,85 +117,82 @@ stop_same frames left r q a b (at_limit all same is) (at_limit all' same' is') =
 
 -- ---- two readings
 
--- two readings are one, and so are their statuses, and what they leave
-record AreSame (fs gs : List InFrame) (os ps : List OutFrame) (s t : State) (a b : Status) (r q : List ℕ) : Type 0 where
+-- two readings are of the same frames, and so are their statuses, and what they leave
+record AreSame (fs gs : List InFrame) (a b : Status) (r q : List ℕ) : Type 0 where
   frames : fs ≡ gs
-  outs : os ≡ ps
-  state : s ≡ t
   status : a ≡ b
   rest : r ≡ q
 
--- nothing was handled
-handled_none : (fs : List InFrame) (os : List OutFrame) (s : State) → Handled fs os s → fs ≡ [] → (os ≡ []) × (s ≡ start)
-handled_none [] os s handled none = handled.steps
-handled_none (f ∷ fs) os s handled none = absurd cc
-
--- two readings of nothing
-both_none : (fs gs : List InFrame) (os ps : List OutFrame) (s t : State) (a b : Status) (r q : List ℕ) → Handled fs os s → Handled gs ps t → fs ≡ [] → gs ≡ []
-    → a ≡ b → r ≡ q → AreSame fs gs os ps s t a b r q
-both_none fs gs os ps s t a b r q h k none none' same rest =
-    let x = handled_none fs os s h none in
-    let y = handled_none gs ps t k none' in
-    record { frames = none ∙ sym none'; outs = x.0 ∙ sym y.0; state = x.1 ∙ sym y.1; status = same; rest = rest }
-
--- two readings behind the magic, side by side
-side_by_side : (bytes : List ℕ) (fs gs : List InFrame) (os ps : List OutFrame) (s t : State) (r q : List ℕ) → Handled fs os s → Handled gs ps t
-    → bytes ≡ magic ++ (in_frames fs ++ r) → bytes ≡ magic ++ (in_frames gs ++ q) → Compares fs gs os ps s t r q
-side_by_side bytes fs gs os ps s t r q h k e d =
-    compared start fs gs os ps s t r q h.formed k.formed h.steps k.steps (append_cancel_left magic (in_frames fs ++ r) (in_frames gs ++ q) (sym e ∙ d))
-
 -- those behind the magic
-same_behind : (fs gs : List InFrame) (os ps : List OutFrame) (s t : State) (l m r q : List ℕ) (a b : Status) → Compares fs gs os ps s t l m
-    → StopsAt fs l r a → StopsAt gs m q b → AreSame fs gs os ps s t a b r q
-same_behind fs gs os ps s t l m r q a b (are_one is) x y =
+same_behind : (fs gs : List InFrame) (l m r q : List ℕ) (a b : Status) → Compares fs gs l m → StopsAt fs l r a → StopsAt gs m q b → AreSame fs gs a b r q
+same_behind fs gs l m r q a b (are_one is) x y =
     let moved : StopsAt fs l q b = subst (λ (v : List InFrame). StopsAt v l q b) (sym is.frames) (subst (λ (v : List ℕ). StopsAt gs v q b) (sym is.rest) y) in
     let same = stop_same fs l r q a b x moved in
-    record { frames = is.frames; outs = is.outs; state = is.state; status = same.0; rest = same.1 }
-same_behind fs gs os ps s t l m r q a b (first_on less on) x y = absurd (stop_not_on gs t m q b (omega (arith, less, at_most fs l r a x)) y on)
-same_behind fs gs os ps s t l m r q a b (second_on less on) x y = absurd (stop_not_on fs s l r a (omega (arith, less, at_most gs m q b y)) x on)
+    record { frames = is.frames; status = same.0; rest = same.1 }
+same_behind fs gs l m r q a b (first_on less on) x y = absurd (stop_not_on gs m q b (omega (arith, less, at_most fs l r a x)) y on)
+same_behind fs gs l m r q a b (second_on less on) x y = absurd (stop_not_on fs l r a (omega (arith, less, at_most gs m q b y)) x on)
 
--- those of a whole recording
-same_in : (bytes : List ℕ) (fs gs : List InFrame) (os ps : List OutFrame) (s t : State) (a b : Status) (r q : List ℕ) → Handled fs os s → Handled gs ps t
-    → StopsIn bytes fs r a → StopsIn bytes gs q b → AreSame fs gs os ps s t a b r q
-same_in bytes fs gs os ps s t a b r q h k (in_magic short none empty is) (in_magic short' none' empty' is') =
-    both_none fs gs os ps s t a b r q h k none none' (is ∙ sym is') (empty ∙ sym empty')
-same_in bytes fs gs os ps s t a b r q h k (in_magic short none empty is) (no_magic taken long other parts none' is') =
-    absurd (omega (arith, ap length parts, length-append taken q))
-same_in bytes fs gs os ps s t a b r q h k (in_magic short none empty is) (behind m d y) = absurd (omega (arith, magic_whole bytes (in_frames gs ++ m) d))
-same_in bytes fs gs os ps s t a b r q h k (no_magic taken long other parts none is) (in_magic short none' empty is') =
-    absurd (omega (arith, ap length parts, length-append taken r))
-same_in bytes fs gs os ps s t a b r q h k (no_magic taken long other parts none is) (no_magic taken' long' other' parts' none' is') =
-    let same = prefixes_same taken taken' r q (long ∙ sym long') (sym parts ∙ parts') in
-    both_none fs gs os ps s t a b r q h k none none' (is ∙ sym is') same.1
-same_in bytes fs gs os ps s t a b r q h k (no_magic taken long other parts none is) (behind m d y) = absurd (not_other bytes (in_frames gs ++ m) taken r d parts long other)
-same_in bytes fs gs os ps s t a b r q h k (behind l e x) (in_magic short none empty is) = absurd (omega (arith, magic_whole bytes (in_frames fs ++ l) e))
-same_in bytes fs gs os ps s t a b r q h k (behind l e x) (no_magic taken long other parts none is) = absurd (not_other bytes (in_frames fs ++ l) taken q e parts long other)
-same_in bytes fs gs os ps s t a b r q h k (behind l e x) (behind m d y) =
-    same_behind fs gs os ps s t l m r q a b (side_by_side bytes fs gs os ps s t l m h k e d) x y
+module _ (mem supply : Supply) (bytes : List ℕ) (fs gs : List InFrame) (os ps : List OutFrame) (s t : State) (a b : Status) (r q : List ℕ) where
+  -- two readings behind the magic, side by side
+  side_by_side : (l m : List ℕ) → Handled mem fs os s → Handled supply gs ps t → bytes ≡ magic ++ (in_frames fs ++ l) → bytes ≡ magic ++ (in_frames gs ++ m) → Compares fs gs l m
+  side_by_side l m h k e d =
+      compared mem supply start start fs gs os ps s t l m h.formed k.formed h.steps k.steps (append_cancel_left magic (in_frames fs ++ l) (in_frames gs ++ m) (sym e ∙ d))
 
--- two readings of one list of bytes are one
-readings_same : (bytes : List ℕ) (fs gs : List InFrame) (os ps : List OutFrame) (s t : State) (a b : Status) (r q : List ℕ)
-    → IsReading bytes fs os s a r → IsReading bytes gs ps t b q → AreSame fs gs os ps s t a b r q
-readings_same bytes fs gs os ps s t a b r q x y =
-    same_in bytes fs gs os ps s t a b r q x.handled y.handled (stops_in a bytes fs r x.read) (stops_in b bytes gs q y.read)
+  -- those of a whole recording
+  same_in : Handled mem fs os s → Handled supply gs ps t → StopsIn bytes fs r a → StopsIn bytes gs q b → AreSame fs gs a b r q
+  same_in h k (in_magic short none empty is) (in_magic short' none' empty' is') =
+      record { frames = none ∙ sym none'; status = is ∙ sym is'; rest = empty ∙ sym empty' }
+  same_in h k (in_magic short none empty is) (no_magic taken long other parts none' is') =
+      absurd (omega (arith, ap length parts, length-append taken q))
+  same_in h k (in_magic short none empty is) (behind m d y) = absurd (omega (arith, magic_whole bytes (in_frames gs ++ m) d))
+  same_in h k (no_magic taken long other parts none is) (in_magic short none' empty' is') =
+      absurd (omega (arith, ap length parts, length-append taken r))
+  same_in h k (no_magic taken long other parts none is) (no_magic taken' long' other' parts' none' is') =
+      let same = prefixes_same taken taken' r q (long ∙ sym long') (sym parts ∙ parts') in
+      record { frames = none ∙ sym none'; status = is ∙ sym is'; rest = same.1 }
+  same_in h k (no_magic taken long other parts none is) (behind m d y) = absurd (not_other bytes (in_frames gs ++ m) taken r d parts long other)
+  same_in h k (behind l e x) (in_magic short none empty is) = absurd (omega (arith, magic_whole bytes (in_frames fs ++ l) e))
+  same_in h k (behind l e x) (no_magic taken long other parts none is) = absurd (not_other bytes (in_frames fs ++ l) taken q e parts long other)
+  same_in h k (behind l e x) (behind m d y) = same_behind fs gs l m r q a b (side_by_side l m h k e d) x y
 
--- no two readings of a recording differ
+  -- two readings of one list of bytes are of the same frames
+  readings_same : IsReading mem bytes fs os s a r → IsReading supply bytes gs ps t b q → AreSame fs gs a b r q
+  readings_same x y = same_in x.handled y.handled (stops_in a bytes fs r x.read) (stops_in b bytes gs q y.read)
+
+-- the same frames, with memory for every call, have the same answers
+answers_same : (fs gs : List InFrame) (os ps : List OutFrame) (s t : State) → fs ≡ gs → Handled Ample fs os s → Handled Ample gs ps t → (os ≡ ps) × (s ≡ t)
+answers_same fs gs os ps s t same h k =
+    frames_one start fs os ps s t h.steps (subst (λ (x : List InFrame). Steps Ample start x ps t) (sym same) k.steps)
+
+-- how much memory there is does not matter to the frames
+pub any_reading : (bytes : List ℕ) (mem supply : Supply) (fs gs : List InFrame) (os ps : List OutFrame) (s t : State) (a b : Status) (r q : List ℕ)
+    → IsReading mem bytes fs os s a r → IsReading supply bytes gs ps t b q → (fs ≡ gs) × (a ≡ b) × (r ≡ q)
+any_reading bytes mem supply fs gs os ps s t a b r q x y =
+    let is = readings_same mem supply bytes fs gs os ps s t a b r q x y in
+    (is.frames, is.status, is.rest)
+
+-- no two readings of a recording differ, where there is memory for every call
 pub one_reading : (bytes : List ℕ) (fs gs : List InFrame) (os ps : List OutFrame) (s t : State) (a b : Status) (r q : List ℕ)
-    → IsReading bytes fs os s a r → IsReading bytes gs ps t b q → (fs ≡ gs) × (os ≡ ps) × (s ≡ t) × (a ≡ b) × (r ≡ q)
+    → IsReading Ample bytes fs os s a r → IsReading Ample bytes gs ps t b q → (fs ≡ gs) × (os ≡ ps) × (s ≡ t) × (a ≡ b) × (r ≡ q)
 one_reading bytes fs gs os ps s t a b r q x y =
-    let is = readings_same bytes fs gs os ps s t a b r q x y in
-    (is.frames, is.outs, is.state, is.status, is.rest)
+    let is = readings_same Ample Ample bytes fs gs os ps s t a b r q x y in
+    let answers = answers_same fs gs os ps s t is.frames x.handled y.handled in
+    (is.frames, answers.0, answers.1, is.status, is.rest)
+
+-- a reading whose answers don't tell a want of memory is one with memory for every call
+pub told_reading : (bytes : List ℕ) (fs : List InFrame) (os : List OutFrame) (s : State) (a : Status) (r : List ℕ) → IsReading Scarce bytes fs os s a r → NoneOutOfMemory os → IsReading Ample bytes fs os s a r
+told_reading bytes fs os s a r x none = record { handled = record { formed = x.handled.formed; steps = steps_told start fs os s x.handled.steps none }; read = x.read }
 
 -- ---- the status of a run
 
 -- the status of a reading is that of each reading
 exact_reading : (status : Status) (bytes : List ℕ) (frames : List InFrame) (answers : List OutFrame) (last : State) (rest : List ℕ)
-    → IsReading bytes frames answers last status rest → IsExact status bytes
-exact_reading status bytes frames answers last rest reading gs ps t expected q other =
-    inl (readings_same bytes frames gs answers ps last t status expected rest q reading other).status
+    → IsReading Scarce bytes frames answers last status rest → IsExact status bytes
+exact_reading status bytes frames answers last rest reading supply gs ps t expected q other =
+    inl (readings_same Scarce supply bytes frames gs answers ps last t status expected rest q reading other).status
 
 -- a source that was read to where the bytes say that it stops
-read_exact : (status : Status) (bytes : List ℕ) (left : Option (List ℕ)) (frames : List InFrame) (answers : List OutFrame) (last : State) → Handled frames answers last
+read_exact : (status : Status) (bytes : List ℕ) (left : Option (List ℕ)) (frames : List InFrame) (answers : List OutFrame) (last : State) → Handled Scarce frames answers last
     → ReadTo status (record { had = Some bytes; left = left }) frames → IsExact status bytes
 read_exact status bytes (Some rest) frames answers last handled read = exact_reading status bytes frames answers last rest (record { handled = handled; read = read })
 read_exact Done bytes None frames answers last handled read = absurd (let took = read.1 in cc)
@@ -209,7 +209,7 @@ read_exact Settings bytes None frames answers last handled read = absurd read
 
 -- a status that blames a device, or the memory, is never wrong
 exact_free : (status : Status) (bytes : List ℕ) → IsFree status → IsExact status bytes
-exact_free status bytes free frames answers last expected rest reading = inr free
+exact_free status bytes free supply frames answers last expected rest reading = inr free
 
 -- the status of a run that began is exact
 pub ran_exact : (status : Status) (had left : Option (List ℕ)) (sink : SinkUse) → Ran status (record { had = had; left = left }) sink → IsReplayed status → WhereTold had (λ bytes. IsExact status bytes)

@@ -8,16 +8,17 @@ use Rattle.sky_outside.specs.Told.{WhereTold, Had, Given}
 use Rattle.sky_xdr.specs.Encoding.{AreBytes}
 use Rattle.sky_script.specs.Frame.{InFrame, Begin, End, OutFrame, Ended, IsInFrame, session_count, in_frame, in_frames, out_frame, out_frames, magic}
 use Rattle.sky_script.specs.Beginning.{IsRefused, IsCutShort}
-use Rattle.sky_world.specs.Meaning.{State, Absent, start, opening, session_at, Step, Steps}
+use Rattle.sky_world.specs.Laws.{NoneOutOfMemory}
+use Rattle.sky_world.specs.Meaning.{State, Absent, Memory as Supply, Ample, Scarce, start, opening, session_at, Step, Steps}
 
 -- how many frames a recording may have, the end among them
 abbrev pub frame_limit : ℕ
 frame_limit = 2 ^ 32
 
--- Frames that were handled from the start: these answers came, and this is the state after them.
-pub record Handled (frames : List InFrame) (answers : List OutFrame) (last : State) : Type 0 where
+-- Frames that were handled from the start, with so much memory: these answers came, and this is the state after them.
+pub record Handled (memory : Supply) (frames : List InFrame) (answers : List OutFrame) (last : State) : Type 0 where
   pub formed : AllByRecursion IsInFrame frames
-  pub steps : Steps start frames answers last
+  pub steps : Steps memory start frames answers last
 
 -- the bytes of a recording: the magic, these frames, and what follows
 abbrev pub recording : List InFrame → List ℕ → List ℕ
@@ -103,7 +104,7 @@ pub record SinkCounts (before now : ℕ) (status : Status) : Type 0 where
 -- than all; or at the last frame, behind the end.
 pub data SinkFailed (source : SourceUse) (sink : SinkUse) (frames : List InFrame) (answers : List OutFrame) (last : State) : Type 0 where
   at_opening : frames ≡ [] → TookNothing source → GaveUpTo sink [] (session_bytes []) → SinkFailed source sink frames answers last
-  at_answer : (f : InFrame) (outs : List OutFrame) (new : State) → IsInFrame f → Step last f outs new → Took source (recording frames (in_frame f))
+  at_answer : (f : InFrame) (outs : List OutFrame) (new : State) → IsInFrame f → Step Scarce last f outs new → Took source (recording frames (in_frame f))
       → GaveUpTo sink (session_bytes answers) (out_frames outs) → SinkFailed source sink frames answers last
   at_end : Took source (recording frames (in_frame End)) → GaveUpTo sink (session_bytes answers) (out_frame (Ended Done)) → SinkFailed source sink frames answers last
 
@@ -128,28 +129,35 @@ EndsBy Words source sink frames answers last = (frames ≡ []) × TookNothing so
 EndsBy Settings source sink frames answers last = (frames ≡ []) × TookNothing source × (sink.after ≡ sink.before)
 
 -- A run that ended with this status: it handled these frames of what the source had, gave the sink all their answers, and then
--- ended so.
+-- ended so. For some of the calls there may have been no memory.
 pub record Ran (status : Status) (source : SourceUse) (sink : SinkUse) : Type 0 where
   pub frames : List InFrame
   pub answers : List OutFrame
   pub last : State
-  pub handled : Handled frames answers last
+  pub handled : Handled Scarce frames answers last
   pub ends : EndsBy status source sink frames answers last
 
 -- ---- what the bytes of a source ask for
 
--- A reading of a recording: these frames are handled, with these answers, and then it stops with this status and leaves the rest.
-pub record IsReading (bytes : List ℕ) (frames : List InFrame) (answers : List OutFrame) (last : State) (status : Status) (rest : List ℕ) : Type 0 where
-  pub handled : Handled frames answers last
+-- A reading of a recording, with so much memory: these frames are handled, with these answers, and then it stops with this status
+-- and leaves the rest.
+pub record IsReading (memory : Supply) (bytes : List ℕ) (frames : List InFrame) (answers : List OutFrame) (last : State) (status : Status) (rest : List ℕ) : Type 0 where
+  pub handled : Handled memory frames answers last
   pub read : ReadTo status (record { had = Some bytes; left = Some rest }) frames
 
--- A recording has a reading, and no two.
+-- A recording has a reading with memory for every call, and no two. How much memory there is does not matter to the frames,
+-- the status and the rest; and a reading whose answers do not tell a want of memory is the one with memory for every call.
 pub record HasOneReading (bytes : List ℕ) : Type 0 where
   pub some : AreBytes bytes → (frames : List InFrame) × (answers : List OutFrame) × (last : State) × (status : Status) × (rest : List ℕ)
-      × IsReading bytes frames answers last status rest
+      × IsReading Ample bytes frames answers last status rest
   pub one : (frames others : List InFrame) (answers replies : List OutFrame) (last end : State) (status verdict : Status) (rest more : List ℕ)
-      → IsReading bytes frames answers last status rest → IsReading bytes others replies end verdict more
+      → IsReading Ample bytes frames answers last status rest → IsReading Ample bytes others replies end verdict more
       → (frames ≡ others) × (answers ≡ replies) × (last ≡ end) × (status ≡ verdict) × (rest ≡ more)
+  pub any : (memory supply : Supply) (frames others : List InFrame) (answers replies : List OutFrame) (last end : State) (status verdict : Status) (rest more : List ℕ)
+      → IsReading memory bytes frames answers last status rest → IsReading supply bytes others replies end verdict more
+      → (frames ≡ others) × (status ≡ verdict) × (rest ≡ more)
+  pub told : (frames : List InFrame) (answers : List OutFrame) (last : State) (status : Status) (rest : List ℕ)
+      → IsReading Scarce bytes frames answers last status rest → NoneOutOfMemory answers → IsReading Ample bytes frames answers last status rest
 
 -- the statuses that blame a device, or the memory
 abbrev pub IsFree : Status → Type 0
@@ -161,8 +169,8 @@ IsFree _ = ⊥
 -- the status is that of the reading of these bytes, unless it blames a device, or the memory
 abbrev pub IsExact : Status → List ℕ → Type 0
 IsExact status bytes =
-    (frames : List InFrame) (answers : List OutFrame) (last : State) (expected : Status) (rest : List ℕ)
-    → IsReading bytes frames answers last expected rest → (status ≡ expected) ⊎ IsFree status
+    (memory : Supply) (frames : List InFrame) (answers : List OutFrame) (last : State) (expected : Status) (rest : List ℕ)
+    → IsReading memory bytes frames answers last expected rest → (status ≡ expected) ⊎ IsFree status
 
 -- a status of a run that began
 abbrev pub IsReplayed : Status → Type 0

@@ -3,7 +3,7 @@
 ghost use Rattle.std.specs.Prelude.{◌≡◌, ◌<◌, ◌↔◌, ◌⊎◌, map, string_bytes, length, Some, None, ℕ, List};
 ghost use Rattle.sky_script.specs.Frame.{InFrame, OutFrame};
 ghost use Rattle.sky_base.specs.declared.status.Status.{Status};
-ghost use Rattle.sky_world.specs.Meaning.{State};
+ghost use Rattle.sky_world.specs.Meaning.{State, Memory};
 ghost use Rattle.bluesky.specs.Words.{IsReplay};
 ghost use Rattle.bluesky.specs.Run.{Ran, IsReading, IsReplayed};
 
@@ -31,8 +31,8 @@ pub fn run_infallible(
         (record { before = None; after = None; faults_before = 0; faults_after = 0 }) }
     // The status is the one that the recording asks for, unless memory runs out.
     ensures complete { IsReplayed result
-        → (frames : List InFrame) (answers : List OutFrame) (last : State) (status : Status) (rest : List ℕ)
-        → IsReading source.old frames answers last status rest
+        → (memory : Memory) (frames : List InFrame) (answers : List OutFrame) (last : State) (status : Status) (rest : List ℕ)
+        → IsReading memory source.old frames answers last status rest
         → (result ≡ status) ⊎ (result ≡ Status.Memory) }
 {
     run(alloc, words, settings, source, sink, site)

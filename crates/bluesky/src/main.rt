@@ -23,7 +23,7 @@ use sky_base::Status;
 use sky_memory::SureSite;
 use std::alloc::Global;
 use std::env::Args;
-use std::io::ErrorKind;
+use std::io::{BufReader, ErrorKind};
 use std::process::ExitCode;
 use std::rt::Env;
 use std::{env, fmt, io};
@@ -79,7 +79,10 @@ fn run_words(rt: &HostRuntime, alloc: Global, words: &[String]) -> Status
     let Ok(mut site) = SureSite::new(alloc, 0) else {
         return Status::Memory;
     };
-    let mut source = StdinSource::new(rt.stdin());
+    let Ok(input) = BufReader::new(alloc, rt.stdin()) else {
+        return Status::Memory;
+    };
+    let mut source = StdinSource::new(input);
     let mut sink = StdoutSink::new(rt.stdout());
     run(alloc, words, settings(), &mut source, &mut sink, &mut site)
 }

@@ -4,6 +4,8 @@ use sky_outside::{Failed, Source};
 use std::process::Abort;
 use std::test::Fail;
 
+mod tree;
+
 /// A frame: its kind, its session and its payload.
 type Parts<'a> = (u8, u32, &'a [u8]);
 
@@ -78,7 +80,7 @@ fn replay<S: Source>(
 ) -> Result<(Status, MemSink), Fail> {
     let words = words_of_texts(alloc, &["replay", "--journal", "j", "--cloud", "c"])?;
     let fail = Vec::from_slice(alloc, fail)?;
-    let mut sink = MemSink::new(alloc, 1000, fail).map_err(|_| "no memory")?;
+    let mut sink = MemSink::new(alloc, 200_000, fail).map_err(|_| "no memory")?;
     let mut site = SureSite::new(alloc, 0).map_err(|_| "no memory")?;
     let status = run(alloc, &words, &[], source, &mut sink, &mut site);
     Ok((status, sink))
@@ -301,11 +303,11 @@ fn each_call_of_a_device_fails_once(rt: HostRuntime) -> Result<(), Fail> {
     for read in 0..5 {
         fails(&rt, rt.alloc(), &[read], &[], Status::SourceFault, 21)?;
     }
-    for write in 0..7 {
+    for write in 0..6 {
         fails(&rt, rt.alloc(), &[], &[write], Status::SinkFault, 0)?;
     }
     // Where the last frame of a failed run can't be written either, the status stays.
-    fails(&rt, rt.alloc(), &[4], &[5], Status::SourceFault, 0)
+    fails(&rt, rt.alloc(), &[4], &[4], Status::SourceFault, 0)
 }
 
 /// A source that gives one byte at a time.

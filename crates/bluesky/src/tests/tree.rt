@@ -1,0 +1,416 @@
+//! Calls on the file tree, as the bytes of a recording and of its answers.
+
+use super::*;
+
+/// Bytes, so many times over.
+type Piece<'a> = (&'a [u8], usize);
+
+/// The status of an answer, how many bytes its results have, and what stands in them from this place on.
+type Answer<'a> = (u32, usize, usize, &'a [Piece<'a>]);
+
+/// A procedure of NFS and its arguments, and the answer.
+type Row = (u32, &'static [Piece<'static>], Answer<'static>);
+
+const NFS: u32 = 100_003;
+
+const MOUNT: u32 = 100_005;
+
+const ROOT: Piece<'static> = (b"\0\0\0\x10\0\0\0\0\0\0\0\x01\0\0\0\0\0\0\0\x01", 1);
+
+const NODE_2: Piece<'static> = (b"\0\0\0\x10\0\0\0\0\0\0\0\x01\0\0\0\0\0\0\0\x02", 1);
+
+const NODE_3: Piece<'static> = (b"\0\0\0\x10\0\0\0\0\0\0\0\x01\0\0\0\0\0\0\0\x03", 1);
+
+const NODE_4: Piece<'static> = (b"\0\0\0\x10\0\0\0\0\0\0\0\x01\0\0\0\0\0\0\0\x04", 1);
+
+const NODE_5: Piece<'static> = (b"\0\0\0\x10\0\0\0\0\0\0\0\x01\0\0\0\0\0\0\0\x05", 1);
+
+const NODE_6: Piece<'static> = (b"\0\0\0\x10\0\0\0\0\0\0\0\x01\0\0\0\0\0\0\0\x06", 1);
+
+const NODE_7: Piece<'static> = (b"\0\0\0\x10\0\0\0\0\0\0\0\x01\0\0\0\0\0\0\0\x07", 1);
+
+/// That a handle follows, or an entry.
+const SOME: Piece<'static> = (b"\0\0\0\x01", 1);
+
+/// No attribute is set (sattr3, RFC 1813 section 2.6).
+const KEEP: Piece<'static> = (b"\0\0\0\0", 6);
+
+/// UNCHECKED.
+const UNCHECKED: Piece<'static> = (b"\0\0\0\0", 1);
+
+/// EXCLUSIVE, with the verifiers 7 and 8.
+const EXCLUSIVE_7: Piece<'static> = (b"\0\0\0\x02\0\0\0\0\0\0\0\x07", 1);
+
+const EXCLUSIVE_8: Piece<'static> = (b"\0\0\0\x02\0\0\0\0\0\0\0\x08", 1);
+
+/// Three fields that are not set.
+const UNSET: Piece<'static> = (b"\0\0\0\0", 3);
+
+const SIZE_32767: Piece<'static> = (b"\0\0\0\0\0\0\x7f\xff", 1);
+
+const SIZE_32768: Piece<'static> = (b"\0\0\0\0\0\0\x80\0", 1);
+
+const SIZE_98303: Piece<'static> = (b"\0\0\0\0\0\x01\x7f\xff", 1);
+
+/// From the first entry on, and from behind the cookie 3 on, without a verifier.
+const FIRST: Piece<'static> = (b"\0\0\0\0\0\0\0\0\0\0\0\0\0\0\0\0", 1);
+
+const BEHIND_3: Piece<'static> = (b"\0\0\0\0\0\0\0\x03\0\0\0\0\0\0\0\0", 1);
+
+/// No verifier, and the entry `.` of the root.
+const DOT: Piece<'static> = (
+    b"\0\0\0\0\0\0\0\0\0\0\0\x01\0\0\0\0\0\0\0\x01\0\0\0\x01.\0\0\0\0\0\0\0\0\0\0\x01",
+    1,
+);
+
+/// The entry `..` of the root.
+const DOT_DOT: Piece<'static> = (
+    b"\0\0\0\x01\0\0\0\0\0\0\0\x01\0\0\0\x02..\0\0\0\0\0\0\0\0\0\x02",
+    1,
+);
+
+const A: Piece<'static> = (b"\0\0\0\x01a\0\0\0", 1);
+
+const B: Piece<'static> = (b"\0\0\0\x01b\0\0\0", 1);
+
+const C: Piece<'static> = (b"\0\0\0\x01c\0\0\0", 1);
+
+const D: Piece<'static> = (b"\0\0\0\x01d\0\0\0", 1);
+
+const E: Piece<'static> = (b"\0\0\0\x01e\0\0\0", 1);
+
+/// The entries of `a` and `c` in the root.
+const ENTRY_A: Piece<'static> = (
+    b"\0\0\0\x01\0\0\0\0\0\0\0\x02\0\0\0\x01a\0\0\0\0\0\0\0\0\0\0\x03",
+    1,
+);
+
+const ENTRY_C: Piece<'static> = (
+    b"\0\0\0\x01\0\0\0\0\0\0\0\x04\0\0\0\x01c\0\0\0\0\0\0\0\0\0\0\x05",
+    1,
+);
+
+/// The page ends, and the directory doesn't; and it does.
+const MORE: Piece<'static> = (b"\0\0\0\0\0\0\0\0", 1);
+
+const EOF: Piece<'static> = (b"\0\0\0\0\0\0\0\x01", 1);
+
+/// UNSTABLE, with 65,536 bytes of data.
+const WRITE: Piece<'static> = (b"\0\x01\0\0\0\0\0\0\0\x01\0\0", 1);
+
+const DATA: Piece<'static> = (b"M", 65_536);
+
+const NODE_303: Piece<'static> = (b"\0\0\0\x10\0\0\0\0\0\0\0\x01\0\0\0\0\0\0\x01\x2f", 1);
+
+const FOLDER: Piece<'static> = (b"\0\0\0\x06folder\0\0", 1);
+
+const BIG: Piece<'static> = (b"\0\0\0\x03big\0", 1);
+
+const FILE_000: Piece<'static> = (b"\0\0\0\x07file000\0", 1);
+
+const FILE_001: Piece<'static> = (b"\0\0\0\x07file001\0", 1);
+
+static ROWS: [Row; 27] = [
+    // READDIR of the empty root with the counts 131, 132 and 160. NFS3ERR_TOOSMALL is 10005.
+    (16, &[ROOT, FIRST, (b"\0\0\0\x83", 1)], (10_005, 92, 0, &[])),
+    (
+        16,
+        &[ROOT, FIRST, (b"\0\0\0\x84", 1)],
+        (0, 136, 92, &[DOT, MORE]),
+    ),
+    (
+        16,
+        &[ROOT, FIRST, (b"\0\0\0\xa0", 1)],
+        (0, 164, 92, &[DOT, DOT_DOT, EOF]),
+    ),
+    // CREATE EXCLUSIVE of `a` with the verifiers 7, 7 and 8. NFS3ERR_EXIST is 17.
+    (8, &[ROOT, A, EXCLUSIVE_7], (0, 232, 4, &[SOME, NODE_2])),
+    (8, &[ROOT, A, EXCLUSIVE_7], (0, 232, 4, &[SOME, NODE_2])),
+    (8, &[ROOT, A, EXCLUSIVE_8], (17, 120, 0, &[])),
+    // `b` and `c` have the cookies 4 and 5. A page ends behind the cookie 3, and the entry at 4 is removed: the next page
+    // begins with 5.
+    (8, &[ROOT, B, UNCHECKED, KEEP], (0, 232, 4, &[SOME, NODE_3])),
+    (8, &[ROOT, C, UNCHECKED, KEEP], (0, 232, 4, &[SOME, NODE_4])),
+    (
+        16,
+        &[ROOT, FIRST, (b"\0\0\0\xbc", 1)],
+        (0, 192, 92, &[DOT, DOT_DOT, ENTRY_A, MORE]),
+    ),
+    (12, &[ROOT, B], (0, 120, 0, &[])),
+    (
+        16,
+        &[ROOT, BEHIND_3, (b"\0\x01\0\0", 1)],
+        (0, 136, 100, &[ENTRY_C, EOF]),
+    ),
+    // RENAME of a directory into its own child. NFS3ERR_INVAL is 22.
+    (9, &[ROOT, D, KEEP], (0, 232, 4, &[SOME, NODE_5])),
+    (9, &[NODE_5, E, KEEP], (0, 232, 4, &[SOME, NODE_6])),
+    (14, &[ROOT, D, NODE_6, B], (22, 236, 0, &[])),
+    // RENAME of `a` to `b`, which names the same file: both names stay, and the file has two links.
+    (15, &[NODE_2, ROOT, B], (0, 208, 0, &[])),
+    (14, &[ROOT, A, ROOT, B], (0, 236, 0, &[])),
+    (3, &[ROOT, A], (0, 200, 4, &[NODE_2])),
+    (3, &[ROOT, B], (0, 200, 4, &[NODE_2])),
+    (1, &[NODE_2], (0, 88, 12, &[(b"\0\0\0\x02", 1)])),
+    // WRITE of 65,536 bytes at 32,767, and SETATTR of the size to 32,768 and to 98,303: what was cut off is zeros.
+    (
+        7,
+        &[NODE_4, SIZE_32767, WRITE, DATA],
+        (0, 136, 56, &[SIZE_98303]),
+    ),
+    (
+        2,
+        &[NODE_4, UNSET, SOME, SIZE_32768, UNSET],
+        (0, 120, 56, &[SIZE_32768]),
+    ),
+    (
+        2,
+        &[NODE_4, UNSET, SOME, SIZE_98303, UNSET],
+        (0, 120, 56, &[SIZE_98303]),
+    ),
+    (
+        6,
+        &[NODE_4, (b"\0\0\0\0\0\0\0\0\0\x01\0\0", 1)],
+        (
+            0,
+            65_640,
+            92,
+            &[
+                (b"\0\x01\0\0\0\0\0\0\0\x01\0\0", 1),
+                (b"\0", 32_767),
+                (b"M", 1),
+                (b"\0", 32_768),
+            ],
+        ),
+    ),
+    (
+        6,
+        &[NODE_4, (b"\0\0\0\0\0\x01\0\0\0\x01\0\0", 1)],
+        (
+            0,
+            32_872,
+            92,
+            &[(b"\0\0\x7f\xff\0\0\0\x01\0\0\x7f\xff", 1), (b"\0", 32_768)],
+        ),
+    ),
+    // WRITE of 70,000 bytes at 0 of an empty file: its size and the count are 65,536. It is UNSTABLE, and the write verifier
+    // is the epoch.
+    (8, &[ROOT, E, UNCHECKED, KEEP], (0, 232, 4, &[SOME, NODE_7])),
+    (
+        7,
+        &[
+            NODE_7,
+            (b"\0\0\0\0\0\0\0\0\0\x01\x11\x70\0\0\0\0\0\x01\x11\x70", 1),
+            (b"M", 70_000),
+        ],
+        (
+            0,
+            136,
+            56,
+            &[
+                (b"\0\0\0\0\0\x01\0\0", 2),
+                (b"\0\0\0\0\0\0\0\0\0\0\0\0\0\0\0\x01\0\0\0\0\0\0\0\x07", 1),
+                (b"\0\0\0\0\0\0\0\0", 3),
+                (b"\0\x01\0\0\0\0\0\0\0\0\0\0\0\0\0\x01", 1),
+            ],
+        ),
+    ),
+    // WRITE of one byte at 1,073,741,824. NFS3ERR_FBIG is 27.
+    (
+        7,
+        &[
+            NODE_7,
+            (b"\0\0\0\0\x40\0\0\0\0\0\0\x01\0\0\0\0\0\0\0\x01M\0\0\0", 1),
+        ],
+        (27, 120, 0, &[]),
+    ),
+];
+
+/// These pieces, one after the other.
+fn joined(alloc: Global, pieces: &[Piece<'_>]) -> Result<Vec<u8>, Fail> {
+    let mut bytes = Vec::new(alloc);
+    for (piece, times) in pieces {
+        for _ in 0..*times {
+            bytes.extend_from_slice(piece)?;
+        }
+    }
+    Ok(bytes)
+}
+
+/// Adds the frame with a call by user 1000 (AUTH_SYS), which has the number 1.
+fn put_call(
+    alloc: Global,
+    bytes: &mut Vec<u8>,
+    program: u32,
+    procedure: u32,
+    args: &[Piece<'_>],
+) -> Result<(), Fail> {
+    let args = joined(alloc, args)?;
+    let length = u32::try_from(args.len())?;
+    let header = length.checked_add(0x8000_003c).ok_or("too long")?;
+    let mut record = Vec::new(alloc);
+    for word in [
+        header, 1, 0, 2, program, 3, procedure, 1, 20, 0, 0, 1000, 1000, 0, 0, 0,
+    ] {
+        record.extend_from_slice(&word.to_be_bytes())?;
+    }
+    record.extend_from_slice(&args)?;
+    put_frame(bytes, (2, 0, &record))
+}
+
+/// What is written for a recording, behind the opening.
+fn replayed(alloc: Global, mut bytes: Vec<u8>) -> Result<Vec<u8>, Fail> {
+    put_frame(&mut bytes, (99, 0, &[]))?;
+    let mut source = source_of(alloc, &bytes, &[])?;
+    let (status, sink) = replay(alloc, &mut source, &[])?;
+    if status != Status::Done {
+        return Err("not done".into());
+    }
+    let (_, answers) = sink.bytes().split_at_checked(37).ok_or("no opening")?;
+    Ok(Vec::from_slice(alloc, answers)?)
+}
+
+/// The number of 4 bytes that comes next, and what follows it.
+fn word(rest: &[u8]) -> Result<(u32, &[u8]), Fail> {
+    let (word, rest) = rest.split_first_chunk::<4>().ok_or("no word")?;
+    Ok((u32::from_be_bytes(*word), rest))
+}
+
+/// The results of the reply that comes next, and what follows the reply.
+fn reply(rest: &[u8]) -> Result<(&[u8], &[u8]), Fail> {
+    let rest = rest.strip_prefix(b"\x02\0\0\0\0").ok_or("no reply")?;
+    let (length, rest) = word(rest)?;
+    let (reply, rest) = rest.split_at_checked(length as usize).ok_or("cut")?;
+    let (head, results) = reply.split_at_checked(28).ok_or("short")?;
+    if !head.ends_with(b"\0\0\0\x01\0\0\0\x01\0\0\0\0\0\0\0\0\0\0\0\0\0\0\0\0") {
+        return Err("no success".into());
+    }
+    Ok((results, rest))
+}
+
+/// That the next reply has this status, so many bytes of results, and these in the results from this place on. What follows
+/// the reply.
+fn answered<'a>(
+    rt: &impl Abort,
+    alloc: Global,
+    rest: &'a [u8],
+    wanted: Answer<'_>,
+) -> Result<&'a [u8], Fail> {
+    let (status, length, at, pieces) = wanted;
+    let (results, rest) = reply(rest)?;
+    assert_eq!(rt; word(results)?.0, status);
+    assert_eq!(rt; results.len(), length);
+    let (_, found) = results.split_at_checked(at).ok_or("short")?;
+    assert!(rt;
+        found.starts_with(&joined(alloc, pieces)?),
+        "not so: {found:?}"
+    );
+    Ok(rest)
+}
+
+#[test]
+fn calls_are_answered_in_one_tree(rt: HostRuntime) -> Result<(), Fail> {
+    let alloc = rt.alloc();
+    let mut bytes = recording(alloc, &[(1, 0, &[])])?;
+    for (procedure, args, _) in &ROWS {
+        put_call(alloc, &mut bytes, NFS, *procedure, args)?;
+    }
+    let answers = replayed(alloc, bytes)?;
+    let mut rest = answers.as_slice();
+    for (_, _, wanted) in &ROWS {
+        rest = answered(&rt, alloc, rest, *wanted)?;
+    }
+    Ok(())
+}
+
+/// A folder of 300 files, and a file of 160 pieces of 65,536 bytes beside it. The folder is listed as one page, and one of its
+/// files takes the place of another.
+fn folder(alloc: Global) -> Result<Vec<u8>, Fail> {
+    let mut bytes = recording(alloc, &[(1, 0, &[])])?;
+    put_call(alloc, &mut bytes, MOUNT, 1, &[(b"\0\0\0\x01/\0\0\0", 1)])?;
+    put_call(alloc, &mut bytes, NFS, 3, &[ROOT, FOLDER])?;
+    put_call(alloc, &mut bytes, NFS, 9, &[ROOT, FOLDER, KEEP])?;
+    for number in 0..300 {
+        let text = format!(in alloc; "\0\0\0\x07file{number:03}\0")?;
+        let name = (text.as_bytes(), 1);
+        put_call(alloc, &mut bytes, NFS, 8, &[NODE_2, name, UNCHECKED, KEEP])?;
+    }
+    put_call(alloc, &mut bytes, NFS, 8, &[ROOT, BIG, UNCHECKED, KEEP])?;
+    for piece in 0..160 {
+        let offset = u64::to_be_bytes(piece * 65_536);
+        put_call(
+            alloc,
+            &mut bytes,
+            NFS,
+            7,
+            &[NODE_303, (&offset, 1), WRITE, DATA],
+        )?;
+    }
+    put_call(alloc, &mut bytes, NFS, 21, &[NODE_303, (b"\0\0\0\0", 3)])?;
+    put_call(
+        alloc,
+        &mut bytes,
+        NFS,
+        17,
+        &[NODE_2, FIRST, (b"\0\x01\0\0", 2)],
+    )?;
+    put_call(
+        alloc,
+        &mut bytes,
+        NFS,
+        14,
+        &[NODE_2, FILE_000, NODE_2, FILE_001],
+    )?;
+    put_call(alloc, &mut bytes, NFS, 3, &[NODE_2, FILE_000])?;
+    put_call(alloc, &mut bytes, NFS, 3, &[NODE_2, FILE_001])?;
+    Ok(bytes)
+}
+
+/// How many entries a list of READDIRPLUS has, and the number behind them, which says whether the directory ends there.
+fn listed(mut rest: &[u8]) -> Result<(u32, u32), Fail> {
+    for count in 0..1000 {
+        let (follows, entry) = word(rest)?;
+        if follows == 0 {
+            return Ok((count, word(entry)?.0));
+        }
+        let (_, named) = entry.split_at_checked(8).ok_or("no fileid")?;
+        let (length, named) = word(named)?;
+        // The name and its padding; the cookie, the attributes and the handle.
+        let size = (length as usize).div_ceil(4) * 4 + 8 + 88 + 24;
+        rest = named.split_at_checked(size).ok_or("cut")?.1;
+    }
+    Err("no end".into())
+}
+
+#[test]
+fn a_folder_of_300_files_is_one_page(rt: HostRuntime) -> Result<(), Fail> {
+    let alloc = rt.alloc();
+    let answers = replayed(alloc, folder(alloc)?)?;
+    let mut rest = answered(&rt, alloc, &answers, (0, 36, 4, &[ROOT]))?;
+    // NFS3ERR_NOENT is 2.
+    rest = answered(&rt, alloc, rest, (2, 92, 0, &[]))?;
+    rest = answered(&rt, alloc, rest, (0, 232, 4, &[SOME, NODE_2]))?;
+    for number in 0..300 {
+        let fileid = u64::to_be_bytes(number + 3);
+        rest = answered(&rt, alloc, rest, (0, 232, 20, &[(&fileid, 1)]))?;
+    }
+    rest = answered(&rt, alloc, rest, (0, 232, 4, &[SOME, NODE_303]))?;
+    for piece in 1..161 {
+        let size = u64::to_be_bytes(piece * 65_536);
+        rest = answered(&rt, alloc, rest, (0, 136, 56, &[(&size, 2)]))?;
+    }
+    rest = answered(
+        &rt,
+        alloc,
+        rest,
+        (0, 128, 120, &[(b"\0\0\0\0\0\0\0\x01", 1)]),
+    )?;
+    let (page, mut rest) = reply(rest)?;
+    let (_, entries) = page.split_at_checked(100).ok_or("short")?;
+    assert_eq!(rt; listed(entries)?, (302, 1));
+    rest = answered(&rt, alloc, rest, (0, 236, 0, &[]))?;
+    rest = answered(&rt, alloc, rest, (2, 92, 0, &[]))?;
+    rest = answered(&rt, alloc, rest, (0, 200, 4, &[NODE_3]))?;
+    assert_eq!(rt; rest.len(), 21);
+    Ok(())
+}
