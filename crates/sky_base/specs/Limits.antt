@@ -76,3 +76,26 @@ max_sessions = 256
 -- what the number of an epoch or of a cleaner's run is below, and the number of an object within it
 abbrev pub max_number : ℕ
 max_number = 2 ^ 62
+
+-- the most bytes of a block of a file
+abbrev pub max_block_bytes : ℕ
+max_block_bytes = 32768
+
+-- how many fileids a page of the map of inodes is for, and the most inodes that it names
+abbrev pub max_page_slots : ℕ
+max_page_slots = 2048
+
+-- how many pages the map of inodes has, which are numbered from 0
+abbrev pub max_pages : ℕ
+max_pages = 32768
+
+-- the most bytes of an object of the cloud
+abbrev pub max_object_bytes : ℕ
+max_object_bytes = 4194304
+
+-- the fewest and the most bytes of one of the journal's two areas
+abbrev pub min_journal_area : ℕ
+min_journal_area = 2 ^ 18
+
+abbrev pub max_journal_area : ℕ
+max_journal_area = 2 ^ 28

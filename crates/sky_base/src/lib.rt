@@ -1,6 +1,6 @@
 //! The plain values that every layer of the proxy speaks of: moments, names, attributes and
-//! credentials, the names of objects in the cloud, the paths on the command line, running out of
-//! memory, and the statuses with which a run ends. `specs/Limits.antt` has every limit's number.
+//! credentials, the names of objects in the cloud and the places of items in them, the paths on the command
+//! line, running out of memory, and the statuses with which a run ends. `specs/Limits.antt` has every limit's number.
 #![tactic(auto)]
 
 mod attr;
@@ -11,6 +11,7 @@ mod moment;
 mod name;
 mod object;
 mod paths;
+mod place;
 mod status;
 
 pub use attr::{Attr, Device, Kind};
@@ -21,6 +22,7 @@ pub use moment::Moment;
 pub use name::Name;
 pub use object::{Dir, SegName};
 pub use paths::{Paths, Text};
+pub use place::{Damage, ItemId, Link, Location, Lost};
 pub use status::Status;
 
 #[cfg(test)]

@@ -70,3 +70,21 @@ fn a_credential_keeps_sixteen_groups(rt: HostRuntime) {
     assert_eq!(rt; cred.uid + cred.gid, 3);
     assert_eq!(rt; cred.gids.as_slice().last(), Some(&15));
 }
+
+#[test]
+fn an_item_lies_in_a_segment(rt: HostRuntime) {
+    let at = Location {
+        dir: Dir::Cleaner,
+        run: 7,
+        seq: 9,
+        offset: 36,
+        length: 65,
+    };
+    let name = SegName {
+        dir: Dir::Cleaner,
+        run: 7,
+        seq: 9,
+        last: false,
+    };
+    assert!(rt; at.name() == name);
+}
