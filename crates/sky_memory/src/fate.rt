@@ -53,14 +53,14 @@ fn listed(fail: &[Fail], number: usize) -> Option<Fail>
 }
 
 /// How the next call goes, which has so many bytes.
-pub fn next(record: &Record, fail: &[Fail], length: usize) -> Fate
-    ensures fate { result ≡ next_fate fail.now record.now length }
-    ensures room { result ≢ Beyond → IsTrue (has_room record.now length) }
+pub fn next(noted: &Record, fail: &[Fail], length: usize) -> Fate
+    ensures fate { result ≡ next_fate fail.now noted.now length }
+    ensures room { result ≢ Beyond → IsTrue (has_room noted.now length) }
 {
-    if !record.has_room(length) {
+    if !noted.has_room(length) {
         return Fate::Beyond;
     }
-    match listed(fail, record.len()) {
+    match listed(fail, noted.len()) {
         Some(f) => Fate::Fails {
             happened: f.happened,
         },
@@ -69,26 +69,26 @@ pub fn next(record: &Record, fail: &[Fail], length: usize) -> Fate
 }
 
 /// Keeps a call that goes so.
-pub fn keep(record: &mut Record, fate: Fate, step: Step, bytes: &[u8])
-    requires room { fate ≢ Beyond → IsTrue (has_room record.old (length bytes.now)) }
+pub fn keep(noted: &mut Record, fate: Fate, step: Step, bytes: &[u8])
+    requires room { fate ≢ Beyond → IsTrue (has_room noted.old (length bytes.now)) }
     requires allowed { IsAllowed step }
-    ensures { record.new ≡ after_next record.old step bytes.now fate }
+    ensures { noted.new ≡ after_next noted.old step bytes.now fate }
 {
     match fate {
         Fate::Beyond => {}
-        Fate::Fails { happened } => record.note(step, happened, bytes),
-        Fate::Goes => record.note(step, true, bytes),
+        Fate::Fails { happened } => noted.note(step, happened, bytes),
+        Fate::Goes => noted.note(step, true, bytes),
     }
 }
 
 /// Keeps the next call, and says how it goes.
-pub fn begin(record: &mut Record, fail: &[Fail], step: Step, bytes: &[u8]) -> Fate
+pub fn begin(noted: &mut Record, fail: &[Fail], step: Step, bytes: &[u8]) -> Fate
     requires { IsAllowed step }
-    ensures fate { result ≡ next_fate fail.now record.old (length bytes.now) }
-    ensures kept { record.new ≡ after_next record.old step bytes.now result }
+    ensures fate { result ≡ next_fate fail.now noted.old (length bytes.now) }
+    ensures kept { noted.new ≡ after_next noted.old step bytes.now result }
 {
-    let fate = next(record, fail, bytes.len());
-    keep(record, fate, step, bytes);
+    let fate = next(noted, fail, bytes.len());
+    keep(noted, fate, step, bytes);
     fate
 }
 

@@ -9,7 +9,7 @@ pub invariant_of-self : goal.invariant_of-self
 invariant_of-self c =
     let s = at_first (first_of c.self.inside) in
     record {
-      image = image_kept c.self.inside.noted c.begin-fate.new.record s [] c.begin-fate.result Look c.self.inside.image.items refl c.begin-fate.ensures.kept c.self.invariant.image;
-      objects = objects_kept c.self.inside.noted c.begin-fate.new.record s [] c.begin-fate.result Look _ refl c.begin-fate.ensures.kept c.self.invariant.objects;
+      image = image_kept c.self.inside.noted c.begin-fate.new.noted s [] c.begin-fate.result Look c.self.inside.image.items refl c.begin-fate.ensures.kept c.self.invariant.image;
+      objects = objects_kept c.self.inside.noted c.begin-fate.new.noted s [] c.begin-fate.result Look _ refl c.begin-fate.ensures.kept c.self.invariant.objects;
       names = c.self.invariant.names;
     }

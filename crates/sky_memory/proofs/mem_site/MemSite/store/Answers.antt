@@ -13,7 +13,7 @@ invariant_of-self-2 c =
     let bytes = c.args.bytes.now in
     let kept = c.keep.ensures in
     record {
-      image = image_kept r c.keep.new.record s bytes c.next-fate.result (Put c.args.name) c.self.inside.image.items refl kept c.self.invariant.image;
-      objects = put_kept r c.keep.new.record s bytes c.next-fate.result c.args.name c.happens.result (map_of c.self.inside.objects) (map_of c.put_if.new.self) kept c.happens.ensures c.self.invariant.objects c.in_default.ensures.ok;
+      image = image_kept r c.keep.new.noted s bytes c.next-fate.result (Put c.args.name) c.self.inside.image.items refl kept c.self.invariant.image;
+      objects = put_kept r c.keep.new.noted s bytes c.next-fate.result c.args.name c.happens.result (map_of c.self.inside.objects) (map_of c.put_if.new.self) kept c.happens.ensures c.self.invariant.objects c.in_default.ensures.ok;
       names = c.self.invariant.names;
     }

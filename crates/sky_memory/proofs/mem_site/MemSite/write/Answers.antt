@@ -9,7 +9,7 @@ pub invariant_of-self : goal.invariant_of-self
 invariant_of-self c =
     let s = at_first (first_of c.self.inside) in
     record {
-      image = written_kept c.self.inside.noted c.begin-fate.new.record s c.args.bytes.now c.begin-fate.result c.args.at c.happens.result c.self.inside.image.items c.overwrite_if.new.image.items c.begin-fate.ensures.kept c.happens.ensures c.self.invariant.image c.overwrite_if.ensures;
-      objects = objects_kept c.self.inside.noted c.begin-fate.new.record s c.args.bytes.now c.begin-fate.result (Write c.args.at) _ refl c.begin-fate.ensures.kept c.self.invariant.objects;
+      image = written_kept c.self.inside.noted c.begin-fate.new.noted s c.args.bytes.now c.begin-fate.result c.args.at c.happens.result c.self.inside.image.items c.overwrite_if.new.image.items c.begin-fate.ensures.kept c.happens.ensures c.self.invariant.image c.overwrite_if.ensures;
+      objects = objects_kept c.self.inside.noted c.begin-fate.new.noted s c.args.bytes.now c.begin-fate.result (Write c.args.at) _ refl c.begin-fate.ensures.kept c.self.invariant.objects;
       names = c.self.invariant.names;
     }
