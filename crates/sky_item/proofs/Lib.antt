@@ -1,0 +1,14 @@
+pub mod Each
+pub mod ItemLaws
+pub mod Located
+pub mod NodeLaws
+pub mod PageLaws
+pub mod PlaceLaws
+pub mod ReadLaws
+pub mod PartLaws
+pub mod Puts
+pub mod BodyLaws
+pub mod Codecs
+pub mod CopyLaws
+pub mod Sizes
+pub mod Whole
