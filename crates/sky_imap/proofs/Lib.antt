@@ -1,0 +1,4 @@
+pub mod AscendLaws
+pub mod FoundLaws
+mod Known
+pub mod PageLaws
