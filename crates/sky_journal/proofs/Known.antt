@@ -79,6 +79,11 @@ last_byte : entries_of any 1 128 0 (header 1 1 0 ++ batch 1 47 (word 43 ++ zeros
 unfolding entries_of areas_entries open_areas area_entries numbered batches_from batch_at all_of_grammar entries_in first_entry number_4 number_8
 last_byte = refl
 
+-- an open batch of no entries is foreign
+no_entries : entries_of any 1 128 0 (header 1 1 0 ++ batch 0 0 [] ++ zeros 200) ≡ Err 64
+unfolding entries_of areas_entries open_areas area_entries numbered batches_from batch_at all_of_grammar entries_in first_entry number_4 number_8
+no_entries = refl
+
 -- a batch of fewer entries than it says is foreign, behind one that is not
 fewer_entries : entries_of any 1 128 0 (header 1 1 0 ++ batch 1 5 (entry 1) ++ batch 2 5 (entry 2) ++ zeros 200) ≡ Err 85
 unfolding entries_of areas_entries open_areas area_entries numbered batches_from batch_at all_of_grammar entries_in first_entry number_4 number_8

@@ -1,2 +1,11 @@
+pub mod AreasRead
+pub mod Faults
+pub mod Journal
+pub mod Laid
 pub mod Layout
+pub mod Looking
+pub mod OnePass
+pub mod Pending
+pub mod Place
 pub mod Text
+pub mod Written

@@ -48,6 +48,7 @@ pub record Area : Type 0 where
 -- the entries of the open batch at a place p of an area, behind the entry of this number
 unfoldable pub batch_at : (List ℕ → Bool) → Area → ℕ → ℕ → Read (List (List ℕ))
 batch_at is_entry area p last = do
+  some ← foreign_where (count_at p area.bytes == 0) (area.start + p)
   within ← foreign_where (nat_le (length area.bytes) (next_batch p area.bytes)) (area.start + p)
   entries ← ok_or (entries_in (count_at p area.bytes) (body_at p area.bytes)) (area.start + p)
   numbers ← foreign_where (nat_le max_number (last + length entries)) (area.start + p)
