@@ -1,0 +1,74 @@
+use Rattle.std.proofs.Common.{◌≡◌, ◌∙◌, ap, sym, subst, List, ℕ}
+use Rattle.sky_entry.specs.Entry.{entry_bytes}
+use Rattle.sky_nfs.specs.Procedure.{procedure, tree_after}
+use Rattle.sky_nfs.specs.Tree.{Tree}
+use Rattle.sky_journal.specs.Journal.{JournalView, IsJournal, IsFramed, SameButSpare}
+use Rattle.sky_calls.specs.Durable.{DurableView, LeavesOldOrAll}
+use Rattle.sky_calls.proofs.Carried.{ok_at, procedure_tree}
+use Rattle.sky_calls.proofs.Framed.{entry_framed}
+use Rattle.sky_calls.proofs.Moments.{waiting_moments, StandsOn-spare, moments_spare}
+use Rattle.sky_calls.proofs.durable.DurableTree.carry_out.Goals as goal
+
+pub returns-then-is_err-clause-any_moment : goal.returns-then-is_err-clause-any_moment
+returns-then-is_err-clause-any_moment g c =
+    waiting_moments g.D.Storage c.args.disk.now c.args.self.now.journal (entry_bytes c.args.change.now)
+    (subst IsJournal (ap (λ (v : DurableView). v.journal) c.self.view_is) c.facts.ensures) c.requires.stands
+
+pub returns-then-is_err-2-clause-any_moment : goal.returns-then-is_err-2-clause-any_moment
+returns-then-is_err-2-clause-any_moment g c =
+    waiting_moments g.D.Storage c.args.disk.now c.args.self.now.journal (entry_bytes c.args.change.now)
+    (subst IsJournal (ap (λ (v : DurableView). v.journal) c.self.view_is) c.facts.ensures) c.requires.stands
+
+pub returns-in_default-clause-any_moment : goal.returns-in_default-clause-any_moment
+returns-in_default-clause-any_moment g c =
+    waiting_moments g.D.Storage c.args.disk.now c.args.self.now.journal (entry_bytes c.args.change.now)
+    (subst IsJournal (ap (λ (v : DurableView). v.journal) c.self.view_is) c.facts.ensures) c.requires.stands
+
+pub keep-kept-requires-clause-framed : goal.keep-kept-requires-clause-framed
+keep-kept-requires-clause-framed g c =
+    let is : c.as_slice.result.now ≡ entry_bytes c.args.change.now =
+    c.as_slice.ensures.value ∙ ok_at c.encode.result (c.encode.new.entry.items ≡ entry_bytes c.args.change.now) c.encode.ensures c.if-is_err-2.ensures.value in
+    subst IsFramed (sym is) (entry_framed c.args.change.now c.requires.small)
+
+pub keep-kept-requires-clause-stands : goal.keep-kept-requires-clause-stands
+keep-kept-requires-clause-stands g c =
+    StandsOn-spare g.D.Storage c.args.disk.now c.args.self.now.journal c.reserve.new.self
+    (subst (λ (v : DurableView). SameButSpare v.journal c.reserve.new.self) c.self.view_is c.reserve.ensures.same) c.requires.stands
+
+pub returns-then-is_err-3-clause-any_moment : goal.returns-then-is_err-3-clause-any_moment
+returns-then-is_err-3-clause-any_moment g c =
+    let is : c.as_slice.result.now ≡ entry_bytes c.args.change.now =
+    c.as_slice.ensures.value ∙ ok_at c.encode.result (c.encode.new.entry.items ≡ entry_bytes c.args.change.now) c.encode.ensures c.if-is_err-2.ensures.value in
+    moments_spare g.D.Storage c.args.disk.now c.keep-kept.new.disk c.args.self.now.journal c.reserve.new.self (entry_bytes c.args.change.now)
+    (subst (λ (v : DurableView). SameButSpare v.journal c.reserve.new.self) c.self.view_is c.reserve.ensures.same)
+    (subst (λ (e : List ℕ). LeavesOldOrAll g.D.Storage c.args.disk.now c.keep-kept.new.disk c.reserve.new.self e) is c.keep-kept.ensures.any_moment)
+
+pub returns-clause-tree : goal.returns-clause-tree
+returns-clause-tree g c =
+    c.in-Ok.ensures.tree
+    ∙ procedure_tree c.self.inside.tree c.args.epoch c.args.change.now.cred c.args.change.now.call c.args.change.now.moment
+    ∙ ap (λ (v : DurableView). tree_after v.tree c.args.change.now.cred c.args.change.now.call c.args.change.now.moment) c.self.view_is
+
+pub returns-clause-any_moment : goal.returns-clause-any_moment
+returns-clause-any_moment g c =
+    let is : c.as_slice.result.now ≡ entry_bytes c.args.change.now =
+    c.as_slice.ensures.value ∙ ok_at c.encode.result (c.encode.new.entry.items ≡ entry_bytes c.args.change.now) c.encode.ensures c.if-is_err-2.ensures.value in
+    moments_spare g.D.Storage c.args.disk.now c.keep-kept.new.disk c.args.self.now.journal c.reserve.new.self (entry_bytes c.args.change.now)
+    (subst (λ (v : DurableView). SameButSpare v.journal c.reserve.new.self) c.self.view_is c.reserve.ensures.same)
+    (subst (λ (e : List ℕ). LeavesOldOrAll g.D.Storage c.args.disk.now c.keep-kept.new.disk c.reserve.new.self e) is c.keep-kept.ensures.any_moment)
+
+-- the journal that stays stands on the disk that stays
+pub returns-then-is_err-clause-stands : goal.returns-then-is_err-clause-stands
+returns-then-is_err-clause-stands g c is =
+    StandsOn-spare g.D.Storage c.args.disk.now c.args.self.now.journal c.reserve.new.self
+    (subst (λ (v : DurableView). SameButSpare v.journal c.reserve.new.self) c.self.view_is c.reserve.ensures.same) c.requires.stands
+
+pub returns-then-is_err-2-clause-stands : goal.returns-then-is_err-2-clause-stands
+returns-then-is_err-2-clause-stands g c is =
+    StandsOn-spare g.D.Storage c.args.disk.now c.args.self.now.journal c.reserve.new.self
+    (subst (λ (v : DurableView). SameButSpare v.journal c.reserve.new.self) c.self.view_is c.reserve.ensures.same) c.requires.stands
+
+pub returns-in_default-clause-stands : goal.returns-in_default-clause-stands
+returns-in_default-clause-stands g c is =
+    StandsOn-spare g.D.Storage c.args.disk.now c.args.self.now.journal c.reserve.new.self
+    (subst (λ (v : DurableView). SameButSpare v.journal c.reserve.new.self) c.self.view_is c.reserve.ensures.same) c.requires.stands
