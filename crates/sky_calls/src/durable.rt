@@ -1,23 +1,24 @@
 //! The file tree with the journal that its changes go through.
 
-ghost use Rattle.std.specs.Prelude.{◌≡◌, ◌<◌, ◌≤◌, ◌^◌, [], ◌∷◌, ◌++◌, true, false, length, IsErr, IsSome, IsTrue, OnErr, OnOk, is_err};
+ghost use Rattle.std.specs.Prelude.{◌≡◌, ◌<◌, ◌≤◌, ◌^◌, [], ◌∷◌, ◌++◌, true, false, length, IfOk, IsErr, IsSome, IsTrue, OnErr, OnOk, is_err};
 ghost use Rattle.sky_nfs.specs.Calls.{is_change};
 ghost use Rattle.sky_nfs.specs.History.{is_done, tree_after_change};
 ghost use Rattle.sky_nfs.specs.Procedure.{procedure};
 ghost use Rattle.sky_entry.specs.Entry.{entry_bytes};
 ghost use Rattle.sky_outside.specs.Count.{Counts};
 ghost use Rattle.sky_outside.specs.Moments.{SameCloud};
-ghost use Rattle.sky_journal.specs.Journal.{StandsOn, SameButSpare, IsFramed, room_of, wanted_of};
-ghost use Rattle.sky_calls.specs.Durable.{is_down, IfDone, IfPutOff, IfJukebox, LeavesOldOrAll, Lasts, journal_after};
+ghost use Rattle.sky_journal.specs.Journal.{StandsOn, SameButSpare, IsFramed, after_commit, room_of, wanted_of};
+ghost use Rattle.sky_calls.specs.Durable.{is_down, IfDone, IfPutOff, IfJukebox, HoldsMore, LeavesMore, LeavesOldOrAll, LeavesOldOrMore, Lasts, journal_after};
 ghost use Rattle.sky_calls.specs.Stable.{is_stable_call};
+ghost use Rattle.sky_tree.specs.Memory.{takes_memory};
 ghost use Rattle.sky_calls.specs.declared.outcome.Outcome.TheVariants.{Down};
 
 use crate::outcome::Outcome;
 use crate::stable::{is_ok, is_stable};
-use sky_base::NoMemory;
+use sky_base::{Cred, Moment, NoMemory};
 use sky_entry::{entry_length, write_entry};
 use sky_journal::Journal;
-use sky_nfs::{Answer, Change};
+use sky_nfs::{Answer, Call, Change};
 use sky_outside::{Disk, Failed};
 use sky_tree::Tree;
 use std::alloc::Global;
@@ -174,6 +175,54 @@ impl DurableTree {
             return Outcome::Jukebox { room, wanted };
         }
         self.carry_out(disk, epoch, change)
+    }
+}
+
+impl DurableTree {
+    /// What is answered to a call, told while the tree stays as it is (RFC 1813 section 3.3): the way in which calls that only read are
+    /// answered.
+    ///
+    /// `NoMemory` where there is no memory for the bytes, the text or the entries that the answer carries.
+    pub fn answer(
+        &self,
+        epoch: u64,
+        cred: &Cred,
+        call: &Call,
+        moment: Moment,
+    ) -> Result<Answer, NoMemory>
+        ensures answer { IfOk result (λ answer. answer ≡ (procedure self.now.tree epoch cred.now call.now moment).answer) }
+        ensures reads { OnErr result (is_change call.now ≡ false) }
+        ensures memory { OnErr result (IsTrue (takes_memory self.now.tree cred.now call.now)) }
+    {
+        self.tree.answer(epoch, cred, call, moment)
+    }
+
+    /// Brings all that is pending to the disk, as a COMMIT asks for (RFC 1813 section 3.3.21). The tree stays. Where nothing is pending no
+    /// call of the disk is made. No memory is needed. The journal is not down.
+    ///
+    /// `Failed` only where the disk's count of faults rose: what was pending may then be on the disk or not, all of it together, and the
+    /// journal is to be read anew.
+    pub fn commit<D: Disk>(&mut self, disk: &mut D) -> Result<(), Failed>
+        requires up { self.old.journal.down ≡ false }
+        requires stands { StandsOn D.Storage self.old.journal disk.old }
+
+        ensures tree { self.new.tree ≡ self.old.tree }
+        ensures journal { OnOk result (SameButSpare (after_commit self.old.journal) self.new.journal) }
+        ensures holds { OnOk result (HoldsMore D.Storage disk.old disk.new self.old.journal self.new.journal self.old.journal.pending) }
+        ensures stands { OnOk result (StandsOn D.Storage self.new.journal disk.new) }
+
+        // Acknowledged: from then on each crash leaves all that was pending.
+        ensures durable { OnOk result (LeavesMore D.Storage disk.old disk.new self.old.journal self.old.journal.pending) }
+        ensures any_moment { LeavesOldOrMore D.Storage disk.old disk.new self.old.journal self.old.journal.pending }
+
+        ensures quiet { self.old.journal.pending ≡ [] → disk.new ≡ disk.old }
+        ensures down { self.new.journal.down ≡ is_err result }
+        ensures beside { SameCloud D.Storage disk.old disk.new }
+        ensures size { D.bytes_of disk.new ≡ D.bytes_of disk.old }
+        ensures cause { Counts (D.disk_faults disk.old) (D.disk_faults disk.new) (IsErr result) }
+        ensures cloud { D.cloud_faults disk.new ≡ D.cloud_faults disk.old }
+    {
+        self.journal.commit(disk)
     }
 }
 
