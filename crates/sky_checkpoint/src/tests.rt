@@ -10,6 +10,8 @@ use sky_outside::Held;
 use std::alloc::{AllocError, Global};
 use std::test::Fail;
 
+mod read_back;
+
 /// A directory, a run, a number in it, and whether the object is a checkpoint.
 type Row = (Dir, u64, u64, bool);
 
