@@ -243,3 +243,10 @@ one_header a b m n x y arun aseq brun bseq e =
     let s = uhyper_same a.seq b.seq _ _ (omega arith) (omega arith) (sym la.at_20 ∙ ap (drop 20) all ∙ lb.at_20) in
     let l = uint_same (last_code a.last) (last_code b.last) _ _ (last_small a.last) (last_small b.last) (sym la.at_28 ∙ ap (drop 28) all ∙ lb.at_28) in
     name_same a b (dir_same a.dir b.dir d.0) r.0 s.0 (last_same a.last b.last l.0)
+
+pub one_count : (a b : SegName) (m n : ℕ) (x y : List ℕ) → m < 2 ^ 32 → n < 2 ^ 32 → object_header a m ++ x ≡ object_header b n ++ y → (m ≡ n) × (x ≡ y)
+one_count a b m n x y mfew nfew e =
+    let all = sym (header_laid a m x) ∙ e ∙ header_laid b n y in
+    let la = layout magic (dir_code a.dir) a.run a.seq (last_code a.last) m x refl in
+    let lb = layout magic (dir_code b.dir) b.run b.seq (last_code b.last) n y refl in
+    uint_same m n x y mfew nfew (sym la.at_32 ∙ ap (drop 32) all ∙ lb.at_32)

@@ -190,10 +190,10 @@ pub record ItemsRead (last : Bool) (n : ℕ) (bytes : List ℕ) (items : List It
   pub many : length items ≡ n
   pub parts : bytes ≡ flat_map item_bytes items ++ rest
 
-abbrev many_of : List Item → List ℕ → Result (List Item × List ℕ) Damage
+abbrev pub many_of : List Item → List ℕ → Result (List Item × List ℕ) Damage
 many_of items rest = Ok (items, rest)
 
-many_is : (a b : List Item) (x y : List ℕ) → many_of a x ≡ many_of b y → (a ≡ b) × (x ≡ y)
+pub many_is : (a b : List Item) (x y : List ℕ) → many_of a x ≡ many_of b y → (a ≡ b) × (x ≡ y)
 many_is a b x y e =
     let one : List Item × List ℕ = (a, x) in
     let other : List Item × List ℕ = (b, y) in

@@ -23,8 +23,8 @@ use Rattle.sky_item.specs.Items.{IsItem}
 use Rattle.sky_item.proofs.Sizes.{length-item_bytes}
 use Rattle.sky_segment.specs.Objects.{object_header, object_header_bytes, object_bytes, may_stand, IsObject}
 use Rattle.sky_segment.specs.Damages.{said_count, header_fields, first_wrong, items_at, all_of, behind_header, object_at, GivesBy}
-use Rattle.sky_segment.proofs.ItemsRead.{items_again, items_sound}
-use Rattle.sky_segment.proofs.Headers.{length-object_header, header_again, header_sound, one_header}
+use Rattle.sky_segment.proofs.ItemsRead.{items_again, items_sound, many_is}
+use Rattle.sky_segment.proofs.Headers.{length-object_header, header_again, header_sound, one_header, one_count}
 
 -- ---- sizes
 
@@ -128,6 +128,24 @@ one_object bytes a b xs ys p q =
     let name : a ≡ b = one_header a b (length xs) (length ys) (flat_map item_bytes xs) (flat_map item_bytes ys) p.run p.seq q.run q.seq (sym p.encoded ∙ q.encoded) in
     let read : object_at b bytes ≡ Ok xs = ap (λ (n : SegName). object_at n bytes) (sym name) ∙ object_again a bytes xs p in
     (name, given_is xs ys (sym read ∙ object_again b bytes ys q))
+
+-- no bytes are left where an object is one with more bytes
+pub no_prefix : (bytes more : List ℕ) (a b : SegName) (xs ys : List Item) → IsObject a bytes xs → IsObject b (bytes ++ more) ys → more ≡ []
+unfolding object_bytes
+no_prefix bytes more a b xs ys p q =
+    let all : List ℕ = flat_map item_bytes xs in
+    let few : length xs < 2 ^ 32 = items_few a xs p.each (omega (arith, p.within, ap length p.encoded)) in
+    let others : length ys < 2 ^ 32 = items_few b ys q.each (omega (arith, q.within, ap length q.encoded)) in
+    let e : object_header a (length xs) ++ (all ++ more) ≡ object_header b (length ys) ++ flat_map item_bytes ys =
+    sym (append_assoc (object_header a (length xs)) all more) ∙ ap (λ (t : List ℕ). t ++ more) (sym p.encoded) ∙ q.encoded in
+    let name : a ≡ b = one_header a b (length xs) (length ys) (all ++ more) (flat_map item_bytes ys) p.run p.seq q.run q.seq e in
+    let same = one_count a b (length xs) (length ys) (all ++ more) (flat_map item_bytes ys) few others e in
+    let first : items_at a.last (length xs) (all ++ more) ≡ Ok (xs, more) = items_again a.last xs more p.each p.kinds in
+    let second : items_at b.last (length ys) (flat_map item_bytes ys ++ []) ≡ Ok (ys, []) = items_again b.last ys [] q.each q.kinds in
+    let bridge : items_at a.last (length xs) (all ++ more) ≡ items_at b.last (length ys) (flat_map item_bytes ys ++ []) =
+    ap (λ (n : SegName). items_at n.last (length xs) (all ++ more)) name ∙ ap (λ (n : ℕ). items_at b.last n (all ++ more)) same.0
+    ∙ ap (items_at b.last (length ys)) (same.1 ∙ sym (append-nil (flat_map item_bytes ys))) in
+    (many_is xs ys more [] (sym first ∙ bridge ∙ second)).1
 
 -- ---- what a call returned
 

@@ -16,6 +16,8 @@ ghost use Rattle.sky_segment.specs.Drafts.{Draft, size_of_draft, with_item};
 pub fn objects_have_one_reading()
     // No bytes are two objects: neither of two names, nor of two lists of items.
     ensures one_object { (bytes : List ℕ) (a b : SegName) (xs ys : List Item) → IsObject a bytes xs → IsObject b bytes ys → (a ≡ b) × (xs ≡ ys) }
+    // No object is a proper prefix of another.
+    ensures no_prefix { (bytes more : List ℕ) (a b : SegName) (xs ys : List Item) → IsObject a bytes xs → IsObject b (bytes ++ more) ys → more ≡ [] }
 {}
 
 /// `object_at` decides of which items bytes are the object of a name: the objects are read, and all else is refused.

@@ -209,6 +209,26 @@ fn builder_of(alloc: Global, name: SegName) -> Result<Builder, Fail>
     }
 }
 
+// Adds an item, and answers where it lies.
+fn add_item(builder: &mut Builder, item: &Item) -> Result<(u32, u32), Fail>
+    requires { IsItem item.now }
+{
+    if !builder.fits(item) || !builder.takes(item) {
+        return Err("no place for it".into());
+    }
+    let Ok(at) = builder.add(item) else {
+        return Err("no memory".into());
+    };
+    let name = builder.name();
+    if at.dir != name.dir || at.run != name.run || at.seq != name.seq {
+        return Err("another object".into());
+    }
+    if builder.takes(item) == name.last {
+        return Err("one more checkpoint".into());
+    }
+    Ok((at.offset, at.length))
+}
+
 // Adds the item of these bytes, and answers where it lies.
 fn add_bytes(alloc: Global, builder: &mut Builder, bytes: &[u8]) -> Result<(u32, u32), Fail> {
     if bytes.len() > 1000 {
@@ -217,20 +237,7 @@ fn add_bytes(alloc: Global, builder: &mut Builder, bytes: &[u8]) -> Result<(u32,
     let Ok(item) = read_item(alloc, bytes) else {
         return Err("no item".into());
     };
-    if !builder.fits(&item) || !builder.takes(&item) {
-        return Err("no place for it".into());
-    }
-    let Ok(at) = builder.add(&item) else {
-        return Err("no memory".into());
-    };
-    let name = builder.name();
-    if at.dir != name.dir || at.run != name.run || at.seq != name.seq {
-        return Err("another object".into());
-    }
-    if builder.takes(&item) == name.last {
-        return Err("one more checkpoint".into());
-    }
-    Ok((at.offset, at.length))
+    add_item(builder, &item)
 }
 
 #[test]
@@ -282,26 +289,16 @@ fn block_of(alloc: Global, count: usize) -> Result<Item, AllocError>
 fn an_object_is_filled_to_its_limit(rt: HostRuntime) -> Result<(), Fail> {
     let mut builder = builder_of(rt.alloc(), name_of(0))?;
     let block = block_of(rt.alloc(), 32_768)?;
-    let mut blocks = 0;
-    for _ in 0..200 {
-        if builder.fits(&block) {
-            assert!(rt; builder.takes(&block));
-            assert!(rt; builder.add(&block).is_ok());
-            blocks += 1;
-        }
+    for _ in 0..127 {
+        add_item(&mut builder, &block)?;
     }
-    assert_eq!(rt; blocks, 127);
+    assert!(rt; !builder.fits(&block));
     // 4,194,304 are left over the header's 36, 127 items of 32,828, and 60 before the bytes of one more block.
-    let over = block_of(rt.alloc(), 25_053)?;
-    assert!(rt; !builder.fits(&over));
-    let last = block_of(rt.alloc(), 25_052)?;
-    assert!(rt; builder.fits(&last));
-    assert!(rt; builder.takes(&last));
-    let Ok(at) = builder.add(&last) else {
-        return Err("no memory".into());
-    };
-    assert_eq!(rt; (at.offset, at.length), (4_169_192, 25_112));
+    assert!(rt; !builder.fits(&block_of(rt.alloc(), 25_053)?));
+    let place = add_item(&mut builder, &block_of(rt.alloc(), 25_052)?)?;
+    assert_eq!(rt; place, (4_169_192, 25_112));
     assert!(rt; !builder.fits(&block_of(rt.alloc(), 1)?));
+    assert!(rt; builder.is_complete());
     let mut bytes = builder.finish().into_vec();
     assert_eq!(rt; (bytes.len(), bytes.capacity()), (4_194_304, 4_194_304));
     let read = answer(read_segment(rt.alloc(), name_of(0), &bytes));

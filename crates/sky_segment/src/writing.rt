@@ -1,6 +1,6 @@
 //! Writing into the bytes of an object.
 
-ghost use Rattle.std.specs.Prelude.{◌≡◌, ◌≤◌, ◌+◌, ◌++◌, length, take, drop, OnOk, OnErr};
+ghost use Rattle.std.specs.Prelude.{◌≡◌, ◌≤◌, ◌+◌, ◌++◌, length, take, drop, vec_capacity, OnOk, OnErr};
 ghost use Rattle.sky_base.specs.Limits.{max_object_bytes};
 ghost use Rattle.sky_xdr.specs.Encoding.{uint};
 ghost use Rattle.sky_item.specs.Encoding.{item_bytes};
@@ -17,7 +17,8 @@ pub const OBJECT_BYTES: usize = 4_194_304;
 /// Makes room for more bytes: at least twice as much as there was, but no more than an object may have.
 fn make_room(bytes: &mut Vec<u8>, more: usize) -> Result<(), NoMemory>
     requires { length bytes.old.items + more ≤ max_object_bytes }
-    ensures { bytes.new.items ≡ bytes.old.items }
+    ensures same { bytes.new.items ≡ bytes.old.items }
+    ensures room { OnOk result (length bytes.old.items + more ≤ vec_capacity bytes.new) }
 {
     let needed = bytes.len() + more;
     if bytes.capacity() < needed {
