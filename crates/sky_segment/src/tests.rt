@@ -229,6 +229,16 @@ fn add_item(builder: &mut Builder, item: &Item) -> Result<(u32, u32), Fail>
     Ok((at.offset, at.length))
 }
 
+// Adds an item 127 times.
+fn add_copies(builder: &mut Builder, item: &Item) -> Result<(), Fail>
+    requires { IsItem item.now }
+{
+    for _ in 0..127 {
+        add_item(builder, item)?;
+    }
+    Ok(())
+}
+
 // Adds the item of these bytes, and answers where it lies.
 fn add_bytes(alloc: Global, builder: &mut Builder, bytes: &[u8]) -> Result<(u32, u32), Fail> {
     if bytes.len() > 1000 {
@@ -289,9 +299,7 @@ fn block_of(alloc: Global, count: usize) -> Result<Item, AllocError>
 fn an_object_is_filled_to_its_limit(rt: HostRuntime) -> Result<(), Fail> {
     let mut builder = builder_of(rt.alloc(), name_of(0))?;
     let block = block_of(rt.alloc(), 32_768)?;
-    for _ in 0..127 {
-        add_item(&mut builder, &block)?;
-    }
+    add_copies(&mut builder, &block)?;
     assert!(rt; !builder.fits(&block));
     // 4,194,304 are left over the header's 36, 127 items of 32,828, and 60 before the bytes of one more block.
     assert!(rt; !builder.fits(&block_of(rt.alloc(), 25_053)?));
