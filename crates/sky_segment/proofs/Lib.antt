@@ -1,0 +1,4 @@
+pub mod ItemsRead
+pub mod Headers
+pub mod ObjectLaws
+pub mod DraftLaws
