@@ -1,1 +1,2 @@
+pub mod NameTextLaws
 pub mod OrderLaws

@@ -7,6 +7,7 @@ ghost use Rattle.sky_base.specs.Limits.{max_name_bytes, max_gids};
 ghost use Rattle.sky_base.specs.Order.{name_order, moment_order};
 ghost use Rattle.sky_base.specs.declared.moment.Moment.{Moment};
 ghost use Rattle.sky_base.specs.declared.object.SegName.{SegName};
+ghost use Rattle.sky_base.specs.NameText.{IsNumbered, name_text};
 
 use crate::cred::Gids;
 use crate::moment::Moment;
@@ -30,4 +31,9 @@ pub fn names_are_ordered()
 pub fn moments_are_ordered()
     ensures order { (a b : Moment) → ⟦<Moment as Ord>⟧.cmp a b ≡ moment_order a b }
     ensures apart { (a b : Moment) → moment_order a b ≡ Equal → a ≡ b }
+{}
+
+/// A text is that of at most one name whose numbers are below the limit.
+pub fn texts_are_of_one_name()
+    ensures { (a b : SegName) → IsNumbered a → IsNumbered b → name_text a ≡ name_text b → a ≡ b }
 {}

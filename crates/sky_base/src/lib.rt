@@ -9,6 +9,7 @@ mod laws;
 mod memory;
 mod moment;
 mod name;
+mod name_text;
 mod object;
 mod paths;
 mod place;
@@ -16,10 +17,13 @@ mod status;
 
 pub use attr::{Attr, Device, Kind};
 pub use cred::{Cred, Gids, Want};
-pub use laws::{limits_are_as_defined, moments_are_ordered, names_are_ordered};
+pub use laws::{
+    limits_are_as_defined, moments_are_ordered, names_are_ordered, texts_are_of_one_name,
+};
 pub use memory::NoMemory;
 pub use moment::Moment;
 pub use name::Name;
+pub use name_text::NotAName;
 pub use object::{Dir, SegName};
 pub use paths::{Paths, Text};
 pub use place::{Damage, ItemId, Link, Location, Lost};

@@ -88,3 +88,76 @@ fn an_item_lies_in_a_segment(rt: HostRuntime) {
     };
     assert!(rt; at.name() == name);
 }
+
+static TEXTS: [(Dir, u64, u64, bool, &str); 4] = [
+    (
+        Dir::Proxy,
+        1,
+        2,
+        true,
+        "p/0000000000000001/0000000000000002.k",
+    ),
+    (
+        Dir::Cleaner,
+        0,
+        10,
+        false,
+        "c/0000000000000000/000000000000000a.s",
+    ),
+    (
+        Dir::Proxy,
+        0x123456789abcdef,
+        31,
+        false,
+        "p/0123456789abcdef/000000000000001f.s",
+    ),
+    (
+        Dir::Cleaner,
+        0x3fffffffffffffff,
+        255,
+        true,
+        "c/3fffffffffffffff/00000000000000ff.k",
+    ),
+];
+
+#[test]
+fn names_have_their_texts(rt: HostRuntime) {
+    for (dir, run, seq, last, text) in &TEXTS {
+        let name = SegName {
+            dir: *dir,
+            run: *run,
+            seq: *seq,
+            last: *last,
+        };
+        assert_eq!(rt; name.to_text().as_slice(), text.as_bytes());
+        assert_eq!(rt; SegName::from_text(text.as_bytes()), Ok(name));
+    }
+}
+
+static NO_NAMES: [&str; 14] = [
+    "",
+    "p/0000000000000001/0000000000000002.",
+    "p/0000000000000001/0000000000000002.kk",
+    "q/0000000000000001/0000000000000002.k",
+    "P/0000000000000001/0000000000000002.k",
+    "p-0000000000000001/0000000000000002.k",
+    "p/000000000000000A/0000000000000002.k",
+    "p/000000000000000g/0000000000000002.k",
+    "p/000000000000001/00000000000000002.k",
+    "p/0000000000000001-0000000000000002.k",
+    "p/0000000000000001/0000000000000002.K",
+    "p/0000000000000001/0000000000000002-k",
+    "p/4000000000000000/0000000000000002.k",
+    "c/0000000000000001/ffffffffffffffff.s",
+];
+
+#[test]
+fn other_texts_are_no_names(rt: HostRuntime) {
+    for text in &NO_NAMES {
+        assert_eq!(rt;
+            SegName::from_text(text.as_bytes()),
+            Err(NotAName),
+            "of {text}"
+        );
+    }
+}

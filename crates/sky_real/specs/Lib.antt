@@ -1,0 +1,3 @@
+pub mod Adapter
+pub mod FileSite
+pub mod Lengths
