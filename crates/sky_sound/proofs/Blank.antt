@@ -1,0 +1,66 @@
+-- A disk of zeros has no entry.
+use Rattle.std.specs.Prelude.{slice_index, ◌==◌}
+use Rattle.std.specs.List.{AllByRecursion}
+use Rattle.std.proofs.Common.{◌≡◌, ℕ, zero, suc, ◌*◌, ◌≤◌, Bool, true, false, List, [], ◌∷◌, length, take, drop, replicate, None, Ok, refl, sym, ap, ◌∙◌, subst, arith}
+use Rattle.std.proofs.lemmas.List.{length-replicate}
+use Rattle.sky_base.specs.Limits.{max_volume}
+use Rattle.sky_nfs.specs.Tree.{empty_tree}
+use Rattle.sky_nfs.specs.Validity.{IsValidTree}
+use Rattle.sky_outside.specs.CloudMap.{CloudMap}
+use Rattle.sky_journal.specs.Layout.{is_open}
+use Rattle.sky_journal.specs.Text.{Area, open_areas, first_area, second_area, areas_entries, entries_of}
+use Rattle.sky_journal.proofs.JournalRead.{large_enough}
+use Rattle.sky_sound.specs.Cloud.{checkpoint_in, covers_of, cloud_tree}
+use Rattle.sky_sound.specs.Entries.{is_of_change}
+use Rattle.sky_sound.specs.Recovery.{IsSound, recovered, history_from}
+use Rattle.sky_sound.proofs.Above.{recovered_is, history_is}
+
+abbrev Zeros : List ℕ → Type 0
+Zeros bytes = AllByRecursion (λ b. b ≡ 0) bytes
+
+zeros_all : (n : ℕ) → Zeros (replicate n 0)
+zeros_all zero = tt
+zeros_all (suc n) = (refl, zeros_all n)
+
+zeros_take : (n : ℕ) (bytes : List ℕ) → Zeros bytes → Zeros (take n bytes)
+zeros_take zero bytes all = tt
+zeros_take (suc n) [] all = tt
+zeros_take (suc n) (b ∷ bytes) all = (all.0, zeros_take n bytes all.1)
+
+zeros_drop : (n : ℕ) (bytes : List ℕ) → Zeros bytes → Zeros (drop n bytes)
+zeros_drop zero bytes all = all
+zeros_drop (suc n) [] all = tt
+zeros_drop (suc n) (b ∷ bytes) all = zeros_drop n bytes all.1
+
+closed : (bytes : List ℕ) → Zeros bytes → is_open 0 bytes ≡ false
+closed [] all = refl
+closed (b ∷ bytes) all = ap (λ (n : ℕ). n == 1) all.0
+
+none_open : (a b : Area) → is_open 0 a.bytes ≡ false → is_open 0 b.bytes ≡ false → open_areas a b ≡ []
+unfolding open_areas
+none_open a b first second = rw (first, second) refl
+
+no_areas : (is_entry : List ℕ → Bool) (volume covers : ℕ) → areas_entries is_entry volume covers [] ≡ Ok []
+unfolding areas_entries
+no_areas is_entry volume covers = refl
+
+pub blank : (is_entry : List ℕ → Bool) (volume size covers bytes : ℕ) → 2 * size ≤ bytes → entries_of is_entry volume size covers (replicate bytes 0) ≡ Ok []
+blank is_entry volume size covers bytes fits =
+    let image = replicate bytes 0 in
+    large_enough is_entry volume size covers image (omega (arith, length-replicate {A = ℕ} bytes 0))
+    ∙ ap (λ (areas : List Area). areas_entries is_entry volume covers areas)
+    (none_open (first_area size image) (second_area size image) (closed (take size image) (zeros_take size image (zeros_all bytes)))
+    (closed (take size (drop size image)) (zeros_take size (drop size image) (zeros_drop size image (zeros_all bytes)))))
+    ∙ no_areas is_entry volume covers
+
+pub blank_recovered : (volume size bytes : ℕ) (objects : CloudMap) → 2 * size ≤ bytes → recovered volume size (replicate bytes 0) objects ≡ Ok (record { length = 0; tree = empty_tree volume })
+blank_recovered volume size bytes objects fits =
+    recovered_is volume size (replicate bytes 0) objects [] (blank is_of_change volume size (covers_of objects) bytes fits)
+
+pub blank_sound : (volume size bytes : ℕ) (objects : CloudMap) → IsValidTree (empty_tree volume) → 2 * size ≤ bytes → checkpoint_in objects ≡ None → IsSound volume size (replicate bytes 0) objects
+blank_sound volume size bytes objects valid fits none = record {
+  no_checkpoint = none;
+  history = history_from (covers_of objects) (cloud_tree volume objects) [];
+  stands_for = history_is volume size (replicate bytes 0) objects [] (blank is_of_change volume size (covers_of objects) bytes fits);
+  legal = record { valid = valid; done = refl };
+}

@@ -1,0 +1,5 @@
+pub mod Above
+pub mod Bases
+pub mod Blank
+pub mod Clouds
+pub mod Texts

@@ -1,0 +1,3 @@
+pub mod Cloud
+pub mod Entries
+pub mod Recovery

@@ -1,0 +1,29 @@
+//! What holds of the definitions as such. A call of these functions does nothing: each of their clauses is a law that is proved.
+
+ghost use Rattle.std.specs.Prelude.{◌≡◌, ℕ, ◌*◌, ◌≤◌, List, None, Ok, replicate};
+ghost use Rattle.sky_base.specs.Limits.{max_volume};
+ghost use Rattle.sky_nfs.specs.History.{History, history_length, last_tree};
+ghost use Rattle.sky_nfs.specs.Tree.{empty_tree};
+ghost use Rattle.sky_outside.specs.CloudMap.{CloudMap};
+ghost use Rattle.sky_sound.specs.Cloud.{checkpoint_in};
+ghost use Rattle.sky_sound.specs.Recovery.{history_of, IsSound, recovered};
+
+use sky_nfs::valid_trees_stay_valid;
+
+/// A disk of zeros that has room for two areas, and a cloud without a checkpoint of the proxy, are a sound site of each volume:
+/// no change was made, and the tree is the empty one.
+pub fn a_blank_site_is_sound()
+    ensures sound { (volume size bytes : ℕ) (objects : CloudMap) → volume ≤ max_volume → 2 * size ≤ bytes
+        → checkpoint_in objects ≡ None → IsSound volume size (replicate bytes 0) objects }
+    ensures found { (volume size bytes : ℕ) (objects : CloudMap) → 2 * size ≤ bytes
+        → recovered volume size (replicate bytes 0) objects ≡ Ok (record { length = 0; tree = empty_tree volume }) }
+{
+    valid_trees_stay_valid();
+}
+
+/// What recovery finds is the length of the history that the site stands for, and the tree that it leads to.
+pub fn history_is_what_is_recovered()
+    ensures { (volume size : ℕ) (image : List ℕ) (objects : CloudMap) (history : History)
+        → history_of volume size image objects ≡ Ok history
+        → recovered volume size image objects ≡ Ok (record { length = history_length history; tree = last_tree history }) }
+{}
