@@ -1,17 +1,15 @@
 -- The entries above a number. Crates above cite this.
-use Rattle.std.specs.Prelude.{nat_lt, IsTrue, is_some, if◌then◌else◌}
-use Rattle.std.specs.List.{AllByRecursion}
-use Rattle.std.proofs.Common.{◌≡◌, ◌⊎◌, inl, inr, ⊎_elim, ℕ, suc, ◌+◌, ◌<◌, ◌≤◌, Bool, true, false, List, [], ◌∷◌, ◌++◌, length, Option, Some, None, Ok, Err, refl, sym, ap, ◌∙◌, subst, arith}
+use Rattle.std.specs.Prelude.{nat_lt, IsTrue, is_some}
+use Rattle.std.proofs.Common.{◌≡◌, ⊎_elim, ℕ, ◌+◌, ◌<◌, ◌≤◌, true, false, List, [], ◌∷◌, ◌++◌, length, Option, Some, None, Ok, refl, sym, ap, ◌∙◌, subst, arith}
 use Rattle.std.proofs.lemmas.Bool.{lt-ltb, le-ltb, cases_lt}
 use Rattle.sky_nfs.specs.declared.call.Change.{Change}
 use Rattle.sky_nfs.specs.History.{History, history_length, last_tree}
-use Rattle.sky_nfs.specs.Tree.{Tree}
 use Rattle.sky_outside.specs.CloudMap.{CloudMap}
 use Rattle.sky_journal.specs.Text.{Read, ◌>>=◌, numbered}
 use Rattle.sky_sound.specs.Cloud.{covers_of, cloud_tree}
 use Rattle.sky_sound.specs.Entries.{change_of, is_of_change, journal_of, entries_above, changes_in, last_number}
 use Rattle.sky_sound.specs.Recovery.{Recovered, found_from, history_from, recovered, history_of}
-use Rattle.sky_sound.proofs.Texts.{AreOfGrammar, IsText, text_of, bound, ok_same}
+use Rattle.sky_sound.proofs.Texts.{AreOfGrammar, text_of, bound, ok_same}
 
 -- an entry above the number, and one that is not
 pub above_yes : (covers : ℕ) (e : ℕ × List ℕ) (more : List (ℕ × List ℕ)) → covers < e.0 → entries_above covers (e ∷ more) ≡ e ∷ entries_above covers more

@@ -1,10 +1,10 @@
 -- The first area of a journal is based on an entry up to covers, where its disk is not foreign. Crates above cite this.
 use Rattle.std.specs.Prelude.{IfSome, nat_lt, if◌then◌else◌}
-use Rattle.std.proofs.Common.{◌≡◌, ◌⊎◌, inl, inr, ⊎_elim, ℕ, ◌+◌, ◌*◌, ◌<◌, ◌≤◌, Bool, true, false, List, [], ◌∷◌, length, take, drop, Option, Some, None, Ok, refl, sym, ap, ◌∙◌, subst, arith}
+use Rattle.std.proofs.Common.{◌≡◌, ◌⊎◌, inl, inr, ⊎_elim, ℕ, ◌*◌, ◌≤◌, Bool, true, false, List, [], ◌∷◌, length, Option, Some, None, Ok, refl, sym, ap, ◌∙◌, arith}
 use Rattle.std.proofs.lemmas.Bool.{cases_eq, true≢false, ltb-false}
 use Rattle.sky_outside.specs.Image.{bytes_at}
 use Rattle.sky_journal.specs.Layout.{is_open, number_8, base_place}
-use Rattle.sky_journal.specs.Text.{Read, ◌>>=◌, foreign_where, Area, base_of, area_entries, second_is_older, in_order, open_areas, first_area, second_area, areas_entries, entries_of}
+use Rattle.sky_journal.specs.Text.{foreign_where, Area, base_of, area_entries, second_is_older, in_order, open_areas, first_area, second_area, areas_entries, entries_of}
 use Rattle.sky_journal.specs.Laid.{IsArea, IsLaid, BeginsAt, IsFree}
 use Rattle.sky_journal.specs.Journal.{JournalView, IsOpenArea, AreInOrder, IsJournal, StandsFor, base_in, first_base}
 use Rattle.sky_journal.specs.declared.open_area.OpenArea.{OpenArea}

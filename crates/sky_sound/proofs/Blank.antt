@@ -1,9 +1,8 @@
 -- A disk of zeros has no entry.
-use Rattle.std.specs.Prelude.{slice_index, ◌==◌}
+use Rattle.std.specs.Prelude.{◌==◌}
 use Rattle.std.specs.List.{AllByRecursion}
-use Rattle.std.proofs.Common.{◌≡◌, ℕ, zero, suc, ◌*◌, ◌≤◌, Bool, true, false, List, [], ◌∷◌, length, take, drop, replicate, None, Ok, refl, sym, ap, ◌∙◌, subst, arith}
+use Rattle.std.proofs.Common.{◌≡◌, ℕ, zero, suc, ◌*◌, ◌≤◌, Bool, false, List, [], ◌∷◌, take, drop, replicate, None, Ok, refl, ap, ◌∙◌, arith}
 use Rattle.std.proofs.lemmas.List.{length-replicate}
-use Rattle.sky_base.specs.Limits.{max_volume}
 use Rattle.sky_nfs.specs.Tree.{empty_tree}
 use Rattle.sky_nfs.specs.Validity.{IsValidTree}
 use Rattle.sky_outside.specs.CloudMap.{CloudMap}

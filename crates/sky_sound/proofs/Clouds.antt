@@ -1,12 +1,12 @@
 -- What is listed of a cloud, object by object, and after a put. Crates above cite this.
 use Rattle.std.specs.Prelude.{max, if◌then◌else◌}
-use Rattle.std.proofs.Common.{◌≡◌, ℕ, ◌+◌, Bool, true, false, List, [], ◌∷◌, ◌++◌, map, Option, Some, None, Ordering, refl, sym, ap, ◌∙◌, subst, arith}
+use Rattle.std.proofs.Common.{◌≡◌, ℕ, Bool, true, false, List, [], ◌∷◌, ◌++◌, map, Option, Some, None, Ordering, refl, ap, ◌∙◌, arith}
 use Rattle.std.specs.declared.cmp.Ordering.TheVariants.{Less, Equal, Greater}
 use Rattle.std.specs.FinMap.{entries, entries-insert}
 use Rattle.std.specs.FinMap.Entries.{put, by_order}
 use Rattle.sky_base.specs.declared.object.SegName.{SegName}
 use Rattle.sky_base.specs.Order.{name_order}
-use Rattle.sky_outside.specs.CloudMap.{CloudMap, after_put, held_of, listing}
+use Rattle.sky_outside.specs.CloudMap.{CloudMap, after_put, held_of}
 use Rattle.sky_outside.specs.declared.site.Held.{Held}
 use Rattle.sky_outside.proofs.CloudLaws.{names_total}
 use Rattle.sky_sound.specs.Cloud.{epoch_behind, next_epoch, is_proxy_check, or_this, last_checkpoint, checkpoint_in}

@@ -1,6 +1,6 @@
 -- What the cloud says of a volume: the epochs that its objects show, its last checkpoint, and the tree and the number of changes
 -- that it holds.
-use Rattle.std.specs.Prelude.{ℕ, ◌+◌, max, Bool, true, false, List, [], ◌∷◌, Option, Some, None, if◌then◌else◌}
+use Rattle.std.specs.Prelude.{ℕ, ◌+◌, max, Bool, false, List, [], ◌∷◌, Option, Some, None, if◌then◌else◌}
 use Rattle.sky_base.specs.declared.object.Dir.{Dir}
 use Rattle.sky_base.specs.declared.object.Dir.TheVariants.{Proxy, Cleaner}
 use Rattle.sky_base.specs.declared.object.SegName.{SegName}

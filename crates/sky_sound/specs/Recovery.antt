@@ -41,3 +41,8 @@ pub record IsSound (volume size : ℕ) (image : List ℕ) (objects : CloudMap) :
   pub history : History
   pub stands_for : history_of volume size image objects ≡ Ok history
   pub legal : IsLegalHistory history
+
+-- A crash left this of a site: it is sound, and recovery finds the same as before.
+pub record FindsSame (volume size : ℕ) (image : List ℕ) (objects : CloudMap) (left : List ℕ) (held : CloudMap) : Type 0 where
+  pub sound : IsSound volume size left held
+  pub same : recovered volume size left held ≡ recovered volume size image objects
