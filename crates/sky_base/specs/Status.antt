@@ -1,7 +1,7 @@
 -- What the statuses of a run are to those who see numbers: the exit status and the session's last frame.
 use Rattle.std.specs.Prelude.{ℕ}
 use Rattle.sky_base.specs.declared.status.Status.{Status}
-use Rattle.sky_base.specs.declared.status.Status.TheVariants.{Done, Words, Malformed, Early, SourceFault, SinkFault, Memory, Long, Settings}
+use Rattle.sky_base.specs.declared.status.Status.TheVariants.{Done, Words, Malformed, Early, SourceFault, SinkFault, JournalFault, Memory, Foreign, Long, Settings}
 
 -- the number of a status
 abbrev pub number_of : Status → ℕ
@@ -11,11 +11,14 @@ number_of (Malformed at) = 2
 number_of Early = 3
 number_of SourceFault = 4
 number_of SinkFault = 5
+number_of JournalFault = 6
 number_of Memory = 8
+number_of (Foreign at) = 9
 number_of Long = 10
 number_of Settings = 11
 
 -- the place that a status names, 0 where it names none
 abbrev pub place_of : Status → ℕ
 place_of (Malformed at) = at
+place_of (Foreign at) = at
 place_of _ = 0

@@ -21,8 +21,15 @@ pub enum Status {
     SourceFault,
     /// 5: a write failed.
     SinkFault,
+    /// 6: a call of the journal's disk failed.
+    JournalFault,
     /// 8: there was no memory to begin with.
     Memory,
+    /// 9: the journal's disk is not one that can be opened.
+    Foreign {
+        /// Where: the place on the disk, in bytes from its start.
+        at: u64,
+    },
     /// 10: 2^32 frames were read, and none of them ended the session.
     Long,
     /// 11: the text of the settings is refused. Nothing is written.
@@ -42,18 +49,20 @@ impl Status {
             Status::Early => 3,
             Status::SourceFault => 4,
             Status::SinkFault => 5,
+            Status::JournalFault => 6,
             Status::Memory => 8,
+            Status::Foreign { at: _ } => 9,
             Status::Long => 10,
             Status::Settings => 11,
         }
     }
 
-    /// The place in the source's bytes that it names, or 0 where it names none.
+    /// The place that it names, in the source's bytes or on the journal's disk; 0 where it names none.
     pub fn place(self) -> u64
         ensures { result ≡ place_of self }
     {
         match self {
-            Status::Malformed { at } => at,
+            Status::Malformed { at } | Status::Foreign { at } => at,
             _ => 0,
         }
     }

@@ -26,7 +26,9 @@ fn statuses_have_their_numbers(rt: HostRuntime) {
         (Status::Early, 3, 0),
         (Status::SourceFault, 4, 0),
         (Status::SinkFault, 5, 0),
+        (Status::JournalFault, 6, 0),
         (Status::Memory, 8, 0),
+        (Status::Foreign { at: 16 }, 9, 16),
         (Status::Long, 10, 0),
         (Status::Settings, 11, 0),
     ] {

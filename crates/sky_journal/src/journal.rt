@@ -4,7 +4,7 @@ ghost use Rattle.std.specs.Prelude.{◌≡◌, ◌+◌, ◌<◌, ◌≤◌, [], 
 ghost use Rattle.std.specs.Option.{option_map};
 ghost use Rattle.sky_base.specs.Limits.{max_number};
 ghost use Rattle.sky_journal.specs.declared.fault.AppendFault.TheVariants.{Full};
-ghost use Rattle.sky_journal.specs.Journal.{IsJournal, last_of, room_of, wanted_of, IsFramed, SameButSpare};
+ghost use Rattle.sky_journal.specs.Journal.{IsJournal, last_of, number_behind, room_of, wanted_of, IsFramed, SameButSpare};
 
 use crate::batch::push_entry;
 use crate::fault::AppendFault;
@@ -123,6 +123,16 @@ impl Journal {
     {
         match self.newer {
             Some(area) => area.last + self.count as u64,
+            None => 0,
+        }
+    }
+
+    /// The number of the last entry on the disk; 0 where no area is open.
+    pub fn stored(&self) -> u64
+        ensures { result ≡ number_behind self.now.newer 0 }
+    {
+        match self.newer {
+            Some(area) => area.last,
             None => 0,
         }
     }

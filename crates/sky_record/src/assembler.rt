@@ -159,7 +159,8 @@ impl Assembler {
     /// The bytes of the record as far as it has come, without headers: the whole record once `feed` answered
     /// `Fed::Message`, and until `clear`.
     pub fn message(&self) -> &[u8]
-        ensures { result.now ≡ self.now.bytes }
+        ensures bytes { result.now ≡ self.now.bytes }
+        ensures within { length result.now ≤ max_record_bytes }
     {
         self.bytes.as_slice()
     }

@@ -52,6 +52,20 @@ impl Tree {
         Ok(Tree { nodes, alloc })
     }
 
+    /// Tells what is true of every tree, for proofs. It does nothing.
+    pub fn facts(&self)
+        ensures { IsValidTree self.now }
+    {
+        let _alloc = self.alloc;
+    }
+
+    /// The number of the volume.
+    pub fn volume(&self) -> u64
+        ensures { result ≡ self.now.volume }
+    {
+        self.nodes.volume()
+    }
+
     /// What GETATTR answers: the attributes of the object that a handle names (RFC 1813 section 3.3.1). It takes no
     /// memory.
     pub fn getattr(&self, object: &RawHandle) -> Result<Attr, NfsStatus>
