@@ -6,6 +6,7 @@ use Rattle.sky_base.specs.declared.status.Status.{Status}
 use Rattle.sky_base.specs.Limits.{max_payload_bytes, max_sessions}
 use Rattle.sky_base.specs.Status.{number_of, place_of}
 use Rattle.sky_xdr.specs.Encoding.{uint, uhyper, bool}
+use Rattle.sky_script.specs.declared.frame.Stats.{Stats}
 
 -- a frame as it is encoded: its kind, the session that it is of, and its payload
 pub record Parts : Type 0 where
@@ -45,6 +46,8 @@ pub data InFrame : Type 0 where
   Close : (session : ℕ) → InFrame
   -- 4: the moment of the steps that follow
   SetMoment : (at : Moment) → InFrame
+  -- 16: what the proxy has, as numbers
+  Stat : InFrame
   -- 99: the end of the recording
   End : InFrame
 
@@ -54,6 +57,7 @@ parts_of (Begin session) = record { kind = 1; session = session; payload = [] }
 parts_of (Bytes session payload) = record { kind = 2; session = session; payload = payload }
 parts_of (Close session) = record { kind = 3; session = session; payload = [] }
 parts_of (SetMoment at) = record { kind = 4; session = 0; payload = uint at.seconds ++ uint at.nanos }
+parts_of Stat = record { kind = 16; session = 0; payload = [] }
 parts_of End = record { kind = 99; session = 0; payload = [] }
 
 abbrev pub in_frame : InFrame → List ℕ
@@ -69,7 +73,8 @@ is_header kind session len =
     else (if kind == 2 then nat_lt session session_count && nat_le len payload_limit
     else (if kind == 3 then nat_lt session session_count && (len == 0)
     else (if kind == 4 then (session == 0) && (len == 8)
-    else (if kind == 99 then (session == 0) && (len == 0) else false))))
+    else (if kind == 16 then (session == 0) && (len == 0)
+    else (if kind == 99 then (session == 0) && (len == 0) else false)))))
 
 -- a frame that may go in
 abbrev pub IsInFrame : InFrame → Type 0
@@ -77,6 +82,7 @@ IsInFrame (Begin session) = session < session_count
 IsInFrame (Bytes session payload) = (session < session_count) × (length payload ≤ payload_limit)
 IsInFrame (Close session) = session < session_count
 IsInFrame (SetMoment at) = (at.seconds < 2 ^ 32) × (at.nanos < second)
+IsInFrame Stat = Unit {0}
 IsInFrame End = Unit {0}
 
 -- ---- what comes out
@@ -87,15 +93,24 @@ pub data OutFrame : Type 0 where
   Reply : (session : ℕ) (bytes : List ℕ) → OutFrame
   -- 3: the proxy closes the session
   Closed : (session : ℕ) → OutFrame
+  -- 16: what the proxy has
+  Counted : Stats → OutFrame
   -- 19: an opening: the epoch, how many changes it found, and whether some came from the journal
   Opened : (epoch changes : ℕ) (journal : Bool) → OutFrame
   -- 99: how the run ended
   Ended : Status → OutFrame
 
+-- the numbers of what the proxy has, one behind the other
+abbrev pub stats_bytes : Stats → List ℕ
+stats_bytes s =
+    uhyper s.history ++ uhyper s.mark ++ uhyper s.epoch ++ uhyper s.covers
+    ++ uhyper s.merged ++ uhyper s.residents ++ uhyper s.proxy_bytes ++ uhyper s.cleaner_bytes
+
 -- how each is encoded
 abbrev pub out_parts_of : OutFrame → Parts
 out_parts_of (Reply session bytes) = record { kind = 2; session = session; payload = bytes }
 out_parts_of (Closed session) = record { kind = 3; session = session; payload = [] }
+out_parts_of (Counted stats) = record { kind = 16; session = 0; payload = stats_bytes stats }
 out_parts_of (Opened epoch changes journal) =
     record { kind = 19; session = 0; payload = uhyper epoch ++ uhyper changes ++ bool journal }
 out_parts_of (Ended status) =

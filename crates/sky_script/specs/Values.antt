@@ -3,9 +3,9 @@ use Rattle.sky_outside.specs.declared.whole.FillFault.{FillFault}
 use Rattle.sky_outside.specs.declared.whole.FillFault.TheVariants as fill
 use Rattle.sky_script.specs.Frame as frames
 use Rattle.sky_script.specs.declared.frame.Frame.{Frame}
-use Rattle.sky_script.specs.declared.frame.Frame.TheVariants.{Begin, Bytes, Close, SetMoment, End}
+use Rattle.sky_script.specs.declared.frame.Frame.TheVariants.{Begin, Bytes, Close, SetMoment, Stat, End}
 use Rattle.sky_script.specs.declared.frame.OutFrame.{OutFrame}
-use Rattle.sky_script.specs.declared.frame.OutFrame.TheVariants.{Reply, Closed, Opened, Ended}
+use Rattle.sky_script.specs.declared.frame.OutFrame.TheVariants.{Reply, Closed, Counted, Opened, Ended}
 use Rattle.sky_script.specs.declared.reading.FrameFault.{FrameFault}
 use Rattle.sky_script.specs.declared.reading.FrameFault.TheVariants as fault
 
@@ -15,12 +15,14 @@ frame_of (Begin session) = frames.Begin session
 frame_of (Bytes session payload) = frames.Bytes session payload.now
 frame_of (Close session) = frames.Close session
 frame_of (SetMoment at) = frames.SetMoment at
+frame_of Stat = frames.Stat
 frame_of End = frames.End
 
 -- the frame that comes out
 abbrev pub out_frame_of : OutFrame → frames.OutFrame
 out_frame_of (Reply session bytes) = frames.Reply session bytes.now
 out_frame_of (Closed session) = frames.Closed session
+out_frame_of (Counted stats) = frames.Counted stats
 out_frame_of (Opened epoch changes journal) = frames.Opened epoch changes journal
 out_frame_of (Ended status) = frames.Ended status
 

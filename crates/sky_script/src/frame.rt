@@ -18,6 +18,8 @@ pub enum Frame<'a> {
     Close { session: u32 },
     /// Kind 4: the moment of the steps that follow.
     SetMoment(Moment),
+    /// Kind 16: what does the proxy have, as numbers?
+    Stat,
     /// Kind 99: the recording ends.
     End,
 }
@@ -36,9 +38,31 @@ impl Frame<'_> {
             Frame::SetMoment(_) => 17,
             Frame::Begin { session: _ } => 9,
             Frame::Close { session: _ } => 9,
+            Frame::Stat => 9,
             Frame::End => 9,
         }
     }
+}
+
+/// What the proxy has, as numbers.
+#[derive(Clone, Copy, Debug, PartialEq, Eq)]
+pub struct Stats {
+    /// The history's length: how many changes it has.
+    pub history: u64,
+    /// The mark: how many of them are stable.
+    pub mark: u64,
+    /// The epoch: the number of the opening.
+    pub epoch: u64,
+    /// How many changes the last uploaded checkpoint covers.
+    pub covers: u64,
+    /// The last run of the cleaner that was merged.
+    pub merged: u64,
+    /// How many residents are clean.
+    pub residents: u64,
+    /// The live bytes in objects of the proxy.
+    pub proxy_bytes: u64,
+    /// The live bytes in objects of the cleaner.
+    pub cleaner_bytes: u64,
 }
 
 /// A frame of the proxy's answers.
@@ -53,6 +77,8 @@ pub enum OutFrame<'a> {
     Closed {
         session: u32,
     },
+    /// Kind 16: what the proxy has.
+    Counted(Stats),
     /// Kind 19: an opening.
     Opened {
         /// Its number.

@@ -7,7 +7,7 @@ mod laws;
 mod reading;
 mod writing;
 
-pub use frame::{Frame, OutFrame};
+pub use frame::{Frame, OutFrame, Stats};
 pub use laws::all_bytes_have_one_beginning;
 pub use reading::{FrameBuf, FrameFault, read_frame};
 pub use writing::{HEADER_ROOM, write_frame, write_out_frame, write_reply_frame};

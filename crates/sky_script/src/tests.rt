@@ -39,6 +39,7 @@ fn parts_of<'a>(frame: &Frame<'a>) -> (u8, u32, u32, &'a [u8]) {
         Frame::Bytes { session, payload } => (2, session, 0, payload),
         Frame::Close { session } => (3, session, 0, &[]),
         Frame::SetMoment(Moment { seconds, nanos }) => (4, seconds, nanos, &[]),
+        Frame::Stat => (16, 0, 0, &[]),
         Frame::End => (99, 0, 0, &[]),
     }
 }
@@ -51,6 +52,7 @@ fn frames_of_each_kind_are_read_byte_by_byte(rt: HostRuntime) -> Result<(), Fail
         \x02\0\0\0\0\0\0\0\0\
         \x03\0\0\0\x05\0\0\0\0\
         \x04\0\0\0\0\0\0\0\x08\0\0\0\x07\x3b\x9a\xc9\xff\
+        \x10\0\0\0\0\0\0\0\0\
         \x63\0\0\0\0\0\0\0\0M";
     let mut source = source_of(alloc, bytes, &[])?;
     let mut buf = FrameBuf::new(alloc).map_err(|_| "no memory")?;
@@ -60,6 +62,7 @@ fn frames_of_each_kind_are_read_byte_by_byte(rt: HostRuntime) -> Result<(), Fail
         (2, 0, 0, b"".as_slice()),
         (3, 5, 0, b"".as_slice()),
         (4, 7, 999_999_999, b"".as_slice()),
+        (16, 0, 0, b"".as_slice()),
         (99, 0, 0, b"".as_slice()),
     ] {
         let frame = read_frame(&mut source, &mut buf).map_err(|_| "no frame")?;
@@ -107,6 +110,8 @@ fn what_is_no_frame_is_refused_and_nothing_is_read_past_it(rt: HostRuntime) -> R
         b"\x03\0\0\x01\0\0\0\0\0MM".as_slice(),
         b"\x04\0\0\0\x01\0\0\0\x08MM".as_slice(),
         b"\x04\0\0\0\0\0\0\0\x07MM".as_slice(),
+        b"\x10\0\0\0\x01\0\0\0\0MM".as_slice(),
+        b"\x10\0\0\0\0\0\0\0\x01MM".as_slice(),
         b"\x63\0\0\0\x01\0\0\0\0MM".as_slice(),
         b"\x04\0\0\0\0\0\0\0\x08\0\0\0\0\x3b\x9a\xca\0MM".as_slice(),
     ] {
@@ -130,6 +135,9 @@ fn frames_of_each_kind_are_written(rt: HostRuntime) -> Result<(), Fail> {
     let want = b"\x13\0\0\0\0\0\0\0\x14\0\0\0\0\0\0\0\x01\0\0\0\0\0\0\0\x02\0\0\0\x01\
         \x02\0\0\0\xff\0\0\0\x03abc\
         \x03\0\0\0\x07\0\0\0\0\
+        \x10\0\0\0\0\0\0\0\x40\
+        \0\0\0\0\0\0\0\x09\0\0\0\0\0\0\0\x08\0\0\0\0\0\0\0\x03\0\0\0\0\0\0\0\x07\
+        \0\0\0\0\0\0\0\x02\0\0\0\0\0\0\0\x06\0\0\0\x01\0\0\0\x05\xff\xff\xff\xff\xff\xff\xff\xfe\
         \x63\0\0\0\0\0\0\0\x0c\0\0\0\x02\0\0\0\0\0\0\x01\x02";
     let mut sink = MemSink::new(alloc, 1000, Vec::new(alloc)).map_err(|_| "no memory")?;
     let opened = OutFrame::Opened {
@@ -141,6 +149,16 @@ fn frames_of_each_kind_are_written(rt: HostRuntime) -> Result<(), Fail> {
         session: 255,
         bytes: b"abc",
     };
+    let counted = OutFrame::Counted(Stats {
+        history: 9,
+        mark: 8,
+        epoch: 3,
+        covers: 7,
+        merged: 2,
+        residents: 6,
+        proxy_bytes: 4_294_967_301,
+        cleaner_bytes: u64::MAX - 1,
+    });
     let ended = OutFrame::Ended(Status::Malformed { at: 258 });
     assert_eq!(rt; write_out_frame(&mut sink, &opened), Ok(()));
     assert_eq!(rt; write_out_frame(&mut sink, &reply), Ok(()));
@@ -148,6 +166,7 @@ fn frames_of_each_kind_are_written(rt: HostRuntime) -> Result<(), Fail> {
         write_out_frame(&mut sink, &OutFrame::Closed { session: 7 }),
         Ok(())
     );
+    assert_eq!(rt; write_out_frame(&mut sink, &counted), Ok(()));
     assert_eq!(rt; write_out_frame(&mut sink, &ended), Ok(()));
     assert_eq!(rt; sink.bytes(), want.as_slice());
     // The third write fails, which is that of the second frame's header.

@@ -5,10 +5,10 @@ ghost use Rattle.sky_base.specs.Status.{number_of, place_of};
 ghost use Rattle.sky_outside.specs.Count.{Counts};
 ghost use Rattle.sky_outside.specs.Told.{Given, GivenPart};
 ghost use Rattle.sky_xdr.specs.Encoding.{uint, uhyper, bool as boolean};
-ghost use Rattle.sky_script.specs.Frame.{header as encoded_header, frame, payload_limit, IsOutFrame, Reply, out_frame};
+ghost use Rattle.sky_script.specs.Frame.{header as encoded_header, frame, payload_limit, IsOutFrame, Reply, out_frame, stats_bytes};
 ghost use Rattle.sky_script.specs.Values.{out_frame_of};
 
-use crate::frame::OutFrame;
+use crate::frame::{OutFrame, Stats};
 use byteorder::{BigEndian, ByteOrder};
 use sky_base::Status;
 use sky_outside::{Failed, Sink, write_all};
@@ -75,6 +75,23 @@ fn opened_payload(epoch: u64, changes: u64, journal: bool) -> [u8; 20]
     bytes
 }
 
+/// What the frame of the proxy's numbers carries.
+#[tactic(auto, unfolding(sky_xdr::specs::Encoding::uhyper))]
+fn stats_payload(stats: Stats) -> [u8; 64]
+    ensures { result ≡ stats_bytes stats }
+{
+    let mut bytes = [0; 64];
+    BigEndian::write_u64(&mut bytes, stats.history);
+    BigEndian::write_u64(&mut bytes[8..], stats.mark);
+    BigEndian::write_u64(&mut bytes[16..], stats.epoch);
+    BigEndian::write_u64(&mut bytes[24..], stats.covers);
+    BigEndian::write_u64(&mut bytes[32..], stats.merged);
+    BigEndian::write_u64(&mut bytes[40..], stats.residents);
+    BigEndian::write_u64(&mut bytes[48..], stats.proxy_bytes);
+    BigEndian::write_u64(&mut bytes[56..], stats.cleaner_bytes);
+    bytes
+}
+
 /// What the last frame carries.
 #[tactic(auto, unfolding(sky_xdr::specs::Encoding::uint, sky_xdr::specs::Encoding::uhyper))]
 fn ended_payload(status: Status) -> [u8; 12]
@@ -96,6 +113,7 @@ pub fn write_out_frame<K: Sink>(sink: &mut K, frame: &OutFrame<'_>) -> Result<()
     match *frame {
         OutFrame::Reply { session, bytes } => write_frame(sink, REPLY, session, bytes),
         OutFrame::Closed { session } => write_frame(sink, 3, session, &[]),
+        OutFrame::Counted(stats) => write_frame(sink, 16, 0, &stats_payload(stats)),
         OutFrame::Opened {
             epoch,
             changes,

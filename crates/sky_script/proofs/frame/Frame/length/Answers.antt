@@ -1,5 +1,5 @@
 use Rattle.std.proofs.Common.{sym}
-use Rattle.sky_script.specs.Frame.{Begin, Bytes, Close, End, parts_of}
+use Rattle.sky_script.specs.Frame.{Begin, Bytes, Close, Stat, End, parts_of}
 use Rattle.sky_script.proofs.FrameLaws.{length-frame, length-in_moment}
 use Rattle.sky_script.proofs.frame.Frame.length.Goals as goal
 
@@ -14,6 +14,9 @@ returns-in-Close c = rw c.in-Close.is (sym (length-frame (parts_of (Close c.in-C
 
 pub returns-in-SetMoment : goal.returns-in-SetMoment
 returns-in-SetMoment c = rw c.in-SetMoment.is (sym (length-in_moment c.in-SetMoment.field-0))
+
+pub returns-in-Stat : goal.returns-in-Stat
+returns-in-Stat c = rw c.in-Stat.is (sym (length-frame (parts_of Stat)))
 
 pub returns-in-End : goal.returns-in-End
 returns-in-End c = rw c.in-End.is (sym (length-frame (parts_of End)))
