@@ -1,7 +1,8 @@
 -- What crashes leave while an entry is kept.
-use Rattle.std.proofs.Common.{◌≡◌, ◌⊎◌, ℕ, List, [], ◌∷◌, ◌++◌, Option, Some, sym, subst, inl}
+use Rattle.std.proofs.Common.{◌≡◌, ◌⊎◌, ℕ, List, [], ◌∷◌, ◌++◌, Option, Some, None, ap, sym, subst, inl}
 use Rattle.sky_outside.specs.Moments.{LeavesOnly, BesideObjects}
-use Rattle.sky_outside.specs.Told.{WhereTold}
+use Rattle.std.proofs.lemmas.List.{append-nil}
+use Rattle.sky_outside.specs.Told.{BothTold, WhereTold}
 use Rattle.sky_outside.specs.declared.storage.Storage.{Ghosts}
 use Rattle.sky_outside.proofs.ToldLaws.{WhereTold-from}
 use Rattle.sky_outside.proofs.MomentLaws.{LeavesOnly-disk_start, only_read}
@@ -65,3 +66,32 @@ lasts_spare g s t j k entry same lasts =
     → (left : List ℕ) → g.may_leave t left → Reads j older (newer ++ (j.pending ++ entry ∷ [])) left)
     (g.image s) there
     (λ image told lasts older newer stands. lasts older newer (StandsFor-but j j.pending k.spare j.down image older newer stands))
+
+-- what the disk then stands for, by a journal that had one entry more pending
+pub holds_committed : (j k l : JournalView) (entry : List ℕ) (a b : Option (List ℕ)) → k ≡ record j { pending = j.pending ++ entry ∷ []; spare = k.spare }
+    → BothTold (λ old new. (older newer : List (List ℕ)) → StandsFor k old older newer → StandsFor l new older (newer ++ k.pending)) a b
+    → BothTold (λ old new. (older newer : List (List ℕ)) → StandsFor j old older newer → StandsFor l new older (newer ++ (j.pending ++ entry ∷ []))) a b
+holds_committed j k l entry None None is both = tt
+holds_committed j k l entry None (Some y) is both = absurd both
+holds_committed j k l entry (Some x) None is both = absurd both
+holds_committed j k l entry (Some x) (Some y) is both = λ older newer stands.
+    subst (λ (v : List (List ℕ)). StandsFor l y older (newer ++ v)) (ap (λ (v : JournalView). v.pending) is)
+    (both older newer (subst (λ (v : JournalView). StandsFor v x older newer) (sym is) (StandsFor-but j (j.pending ++ entry ∷ []) k.spare j.down x older newer stands)))
+
+-- and by one that is the same but for its memory
+pub holds_spare : (j k l : JournalView) (brought : List (List ℕ)) (a b : Option (List ℕ)) → SameButSpare j k
+    → BothTold (λ old new. (older newer : List (List ℕ)) → StandsFor k old older newer → StandsFor l new older (newer ++ brought)) a b
+    → BothTold (λ old new. (older newer : List (List ℕ)) → StandsFor j old older newer → StandsFor l new older (newer ++ brought)) a b
+holds_spare j k l brought None None same both = tt
+holds_spare j k l brought None (Some y) same both = absurd both
+holds_spare j k l brought (Some x) None same both = absurd both
+holds_spare j k l brought (Some x) (Some y) same both = λ older newer stands.
+    both older newer (subst (λ (v : JournalView). StandsFor v x older newer) (sym same) (StandsFor-but j j.pending k.spare j.down x older newer stands))
+
+-- where it waits, the disk stands for what it stood for
+pub holds_waiting : (j k : JournalView) (entry : List ℕ) (a : Option (List ℕ)) → k ≡ record j { pending = j.pending ++ entry ∷ []; spare = k.spare }
+    → BothTold (λ old new. (older newer : List (List ℕ)) → StandsFor j old older newer → StandsFor k new older (newer ++ [])) a a
+holds_waiting j k entry None is = tt
+holds_waiting j k entry (Some x) is = λ older newer stands.
+    subst (λ (v : List (List ℕ)). StandsFor k x older v) (sym (append-nil newer))
+    (subst (λ (v : JournalView). StandsFor v x older newer) (sym is) (StandsFor-but j (j.pending ++ entry ∷ []) k.spare j.down x older newer stands))

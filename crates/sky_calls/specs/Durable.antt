@@ -43,6 +43,10 @@ with_entry j entry = record j { pending = j.pending ++ entry ∷ [] }
 abbrev pub journal_after : Bool → JournalView → List ℕ → JournalView
 journal_after stable j entry = cond stable (after_commit (with_entry j entry)) (with_entry j entry)
 
+-- the entries that an entry more brings to the disk: the pending ones and this one, where it is to be stable, and else none
+abbrev pub entries_kept : Bool → JournalView → List ℕ → List (List ℕ)
+entries_kept stable j entry = cond stable (j.pending ++ entry ∷ []) []
+
 -- a crash at any moment from s to t leaves the entries from before, or those and these
 abbrev pub LeavesOldOrMore : {S : Type 0} → Ghosts S → S → S → JournalView → List (List ℕ) → Type 0
 LeavesOldOrMore g s t j more =

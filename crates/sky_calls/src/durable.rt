@@ -4,14 +4,15 @@ ghost use Rattle.std.specs.Prelude.{◌≡◌, ◌<◌, ◌≤◌, ◌^◌, [], 
 ghost use Rattle.sky_nfs.specs.Calls.{is_change};
 ghost use Rattle.sky_nfs.specs.History.{is_done, tree_after_change};
 ghost use Rattle.sky_nfs.specs.Procedure.{procedure};
+ghost use Rattle.sky_nfs.specs.Validity.{IsValidTree};
 ghost use Rattle.sky_entry.specs.Entry.{entry_bytes};
 ghost use Rattle.sky_outside.specs.Count.{Counts};
 ghost use Rattle.sky_outside.specs.Moments.{SameCloud};
-ghost use Rattle.sky_journal.specs.Journal.{StandsOn, SameButSpare, IsFramed, after_commit, room_of, wanted_of};
-ghost use Rattle.sky_calls.specs.Durable.{is_down, IfDone, IfPutOff, IfJukebox, HoldsMore, LeavesMore, LeavesOldOrAll, LeavesOldOrMore, Lasts, journal_after};
+ghost use Rattle.sky_journal.specs.Journal.{IsJournal, StandsOn, SameButSpare, IsFramed, after_commit, room_of, wanted_of};
+ghost use Rattle.sky_calls.specs.Durable.{is_down, IfDone, IfPutOff, IfJukebox, HoldsMore, entries_kept, LeavesMore, LeavesOldOrAll, LeavesOldOrMore, Lasts, journal_after};
 ghost use Rattle.sky_calls.specs.Stable.{is_stable_call};
 ghost use Rattle.sky_tree.specs.Memory.{takes_memory};
-ghost use Rattle.sky_calls.specs.declared.outcome.Outcome.TheVariants.{Down};
+ghost use Rattle.sky_calls.specs.declared.outcome.Outcome.TheVariants.{Down, Memory};
 
 use crate::outcome::Outcome;
 use crate::stable::{is_ok, is_stable};
@@ -54,6 +55,15 @@ impl DurableTree {
         }
     }
 
+    /// Tells what is true of every tree with its journal, for proofs. It does nothing.
+    pub fn facts(&self)
+        ensures tree { IsValidTree self.now.tree }
+        ensures journal { IsJournal self.now.journal }
+    {
+        self.tree.facts();
+        self.journal.facts();
+    }
+
     /// The tree.
     pub fn tree(&self) -> &Tree
         ensures { result.now ≡ self.now.tree }
@@ -82,6 +92,8 @@ impl DurableTree {
         ensures answer { IfDone result (λ answer. answer ≡ (procedure self.old.tree epoch change.now.cred change.now.call change.now.moment).answer) }
         ensures tree { IfDone result (λ _. self.new.tree ≡ tree_after_change self.old.tree change.now) }
         ensures journal { IfDone result (λ _. SameButSpare (journal_after (is_stable_call change.now.call) self.old.journal (entry_bytes change.now)) self.new.journal) }
+        ensures holds { IfDone result (λ _. HoldsMore D.Storage disk.old disk.new self.old.journal self.new.journal
+            (entries_kept (is_stable_call change.now.call) self.old.journal (entry_bytes change.now))) }
         ensures stands { is_down result ≡ false → StandsOn D.Storage self.new.journal disk.new }
         ensures durable { IfDone result (λ _. is_stable_call change.now.call ≡ true → Lasts D.Storage disk.old disk.new self.old.journal (entry_bytes change.now)) }
         ensures any_moment { LeavesOldOrAll D.Storage disk.old disk.new self.old.journal (entry_bytes change.now) }
@@ -139,6 +151,8 @@ impl DurableTree {
         ensures tree { IfDone result (λ _. self.new.tree ≡ tree_after_change self.old.tree change.now) }
         ensures journal { IfDone result (λ _. is_done self.old.tree change.now ≡ true
             → SameButSpare (journal_after (is_stable_call change.now.call) self.old.journal (entry_bytes change.now)) self.new.journal) }
+        ensures holds { IfDone result (λ _. is_done self.old.tree change.now ≡ true → HoldsMore D.Storage disk.old disk.new self.old.journal self.new.journal
+            (entries_kept (is_stable_call change.now.call) self.old.journal (entry_bytes change.now))) }
         ensures refused { is_done self.old.tree change.now ≡ false → (self.new ≡ self.old) × (disk.new ≡ disk.old) }
         ensures stands { is_down result ≡ false → StandsOn D.Storage self.new.journal disk.new }
 
@@ -149,9 +163,12 @@ impl DurableTree {
 
         ensures room { IfDone result (λ _. is_done self.old.tree change.now ≡ true
             → wanted_of self.old.journal (length (entry_bytes change.now)) ≤ room_of self.old.journal) }
+        ensures tried { is_down result ≡ true → (is_done self.old.tree change.now ≡ true)
+            × (wanted_of self.old.journal (length (entry_bytes change.now)) ≤ room_of self.old.journal) }
         ensures jukebox { IfJukebox result (λ room wanted. (is_done self.old.tree change.now ≡ true) × (room ≡ room_of self.old.journal)
             × (wanted ≡ wanted_of self.old.journal (length (entry_bytes change.now))) × (room < wanted)) }
         ensures put_off { IfPutOff result ((self.new.tree ≡ self.old.tree) × SameButSpare self.old.journal self.new.journal × (disk.new ≡ disk.old)) }
+        ensures memory { result ≡ Memory → is_done self.old.tree change.now ≡ true }
         ensures quiet { is_stable_call change.now.call ≡ false → disk.new ≡ disk.old }
         ensures down { self.new.journal.down ≡ is_down result }
         ensures beside { SameCloud D.Storage disk.old disk.new }
@@ -255,6 +272,7 @@ fn keep<D: Disk>(
     requires up { journal.old.down ≡ false }
     requires stands { StandsOn D.Storage journal.old disk.old }
     ensures ok { OnOk result (SameButSpare (journal_after stable journal.old entry.now) journal.new) }
+    ensures holds { OnOk result (HoldsMore D.Storage disk.old disk.new journal.old journal.new (entries_kept stable journal.old entry.now)) }
     ensures stands { OnOk result (StandsOn D.Storage journal.new disk.new) }
     ensures any_moment { LeavesOldOrAll D.Storage disk.old disk.new journal.old entry.now }
     ensures durable { OnOk result (stable ≡ true → Lasts D.Storage disk.old disk.new journal.old entry.now) }

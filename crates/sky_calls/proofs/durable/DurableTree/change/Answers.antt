@@ -1,4 +1,4 @@
-use Rattle.std.proofs.Common.{◌≡◌, ◌∙◌, ap, sym, subst, refl, length, true, false}
+use Rattle.std.proofs.Common.{◌≡◌, ◌∙◌, ◌≤◌, ℕ, ap, sym, subst, refl, length, true, false}
 use Rattle.sky_entry.specs.Entry.{entry_bytes}
 use Rattle.sky_nfs.specs.History.{is_done}
 use Rattle.sky_nfs.specs.Tree.{Tree}
@@ -64,3 +64,24 @@ returns-clause-refused g c is =
     let done = done_known c.self.inside.tree c.args.self.now.tree c.args.epoch c.args.change.now c.in-Ok.answer c.is_ok.result c.requires.changes
     (ap (λ (v : DurableView). v.tree) c.self.view_is) c.in-Ok.ensures.answer c.is_ok.ensures in
     not_both (is_done c.args.self.now.tree c.args.change.now) (is_done c.args.self.now.tree c.args.change.now) refl (done ∙ c.if-not-is_ok.false) is
+
+pub returns-then-not-is_ok-clause-holds : goal.returns-then-not-is_ok-clause-holds
+returns-then-not-is_ok-clause-holds g c is =
+    let done = done_known c.self.inside.tree c.args.self.now.tree c.args.epoch c.args.change.now c.in-Ok.answer c.is_ok.result c.requires.changes
+    (ap (λ (v : DurableView). v.tree) c.self.view_is) c.in-Ok.ensures.answer c.is_ok.ensures in
+    not_both (is_done c.args.self.now.tree c.args.change.now) c.is_ok.result done is c.if-not-is_ok.true
+
+pub returns-clause-memory : goal.returns-clause-memory
+returns-clause-memory g c is =
+    let done = done_known c.self.inside.tree c.args.self.now.tree c.args.epoch c.args.change.now c.in-Ok.answer c.is_ok.result c.requires.changes
+    (ap (λ (v : DurableView). v.tree) c.self.view_is) c.in-Ok.ensures.answer c.is_ok.ensures in
+    done ∙ c.if-not-is_ok.false
+
+pub returns-clause-tried : goal.returns-clause-tried
+returns-clause-tried g c is =
+    let done = done_known c.self.inside.tree c.args.self.now.tree c.args.epoch c.args.change.now c.in-Ok.answer c.is_ok.result c.requires.changes
+    (ap (λ (v : DurableView). v.tree) c.self.view_is) c.in-Ok.ensures.answer c.is_ok.ensures in
+    let journal = ap (λ (v : DurableView). v.journal) c.self.view_is in
+    let room = c.room-room.ensures ∙ ap (λ (j : JournalView). room_of j) journal in
+    let wanted = c.wanted-wanted.ensures ∙ ap (λ n. wanted_of c.self.inside.journal n) c.entry_length.ensures ∙ ap (λ (j : JournalView). wanted_of j (length (entry_bytes c.args.change.now))) journal in
+    (done ∙ c.if-not-is_ok.false, subst (λ (n : ℕ). n ≤ room_of c.args.self.now.journal) wanted (subst (λ (n : ℕ). c.wanted-wanted.result ≤ n) room c.if-wanted-room.false))
