@@ -1,4 +1,4 @@
--- Laws of answers: the tree after them is the history's, and they fit into a reply.
+-- Laws of answers: the tree after them is the history's.
 use Rattle.std.proofs.Common.{◌≡◌, ◌+◌, ◌≤◌, ℕ, Bool, true, false, ◌&&◌, Option, Some, None, is_none, List, [], ◌∷◌, ◌++◌, refl, sym, ap, ◌∙◌}
 use Rattle.sky_base.specs.declared.cred.Cred.{Cred}
 use Rattle.sky_base.specs.declared.moment.Moment.{Moment}
@@ -10,11 +10,7 @@ use Rattle.sky_nfs.specs.declared.call.Call.{Call}
 use Rattle.sky_nfs.specs.declared.call.Change.{Change}
 use Rattle.sky_nfs.specs.declared.status.NfsStatus.{NfsStatus}
 use Rattle.sky_nfs.proofs.ProcedureLemmas.{tree_after-refused, tree_after-reading}
-use Rattle.sky_world.specs.Feeding.{service_after}
-use Rattle.sky_world.specs.Meaning.{State, after_call, after_message, service_of, with_change, with_history}
-use Rattle.sky_world.specs.Message as message
-use Rattle.sky_world.specs.Message.{Message}
-use Rattle.sky_world.specs.Service.{Service}
+use Rattle.sky_world.specs.Meaning.{after_call, with_change}
 
 -- changes, and one more
 changes_then : (t : Tree) (changes : List Change) (change : Change) → tree_after_changes t (changes ++ change ∷ []) ≡ tree_after_change (tree_after_changes t changes) change
@@ -38,11 +34,3 @@ called_tree h cred call moment = go (is_done (last_tree h) change) refl
     go : (b : Bool) → is_done (last_tree h) change ≡ b → last_tree (after_call h cred call moment) ≡ tree_after (last_tree h) cred call moment
     go true e = rw e (changes_then h.tree h.changes change)
     go false e = rw e (sym (not_done (last_tree h) cred call moment (is_change call) (refusal_of (last_tree h) cred call) refl refl e))
-
--- the service that a record leads to is that of the history after it
-pub served : (s : State) (m : Message) → service_of (with_history s (after_message s m)) ≡ service_after (service_of s) m
-unfolding procedure
-served s message.Close = refl
-served s (message.Refused xid reply) = refl
-served s (message.Mount xid call) = refl
-served s (message.Nfs xid cred call) = ap (λ (t : Tree). let x : Service = record { epoch = s.epoch; tree = t; moment = s.moment } in x) (called_tree s.history cred call s.moment)

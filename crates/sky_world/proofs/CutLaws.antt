@@ -7,8 +7,7 @@ use Rattle.sky_record.proofs.Reading.{one_reading, closed_reads_on}
 use Rattle.sky_script.specs.Frame as frame
 use Rattle.sky_script.specs.Frame.{OutFrame}
 use Rattle.sky_world.specs.Bytes.{AreBytes, HasBytes, HasByteStreams}
-use Rattle.sky_nfs.specs.History.{History}
-use Rattle.sky_world.specs.Meaning.{State, Session, Absent, Open, Closed, Memory, Answered, by_meaning, out_of_memory, session_at, with_history, with_session, is_open, frame_for, after_reply, Passes, Then, Closes, StepRecord, StepRecords, StepProgress, StepBytes, Step}
+use Rattle.sky_world.specs.Meaning.{State, Kept, Session, Absent, Open, Closed, Memory, Answered, by_meaning, put_off, out_of_memory, session_at, with_kept, with_session, is_open, frame_for, after_reply, Passes, Then, Closes, StepRecord, StepRecords, StepProgress, StepBytes, Step}
 use Rattle.sky_world.proofs.SessionLaws.{all-at}
 use Rattle.sky_world.proofs.FrameLaws.{bytes-append}
 use Rattle.sky_world.proofs.FeedLaws.{completed, progress_passed}
@@ -23,53 +22,54 @@ progress_passes n TooLong s outs t e p = of_closed (Closes n) n s outs t e p
 
 module _ (mem : Memory) (s : State) (n : ℕ) (lt : n < length s.sessions) where
   -- the session is open with this stream, and this is the history
-  abbrev at : History → List ℕ → State
-  at h stream = with_session (with_history s h) n (Open stream)
+  abbrev at : Kept → List ℕ → State
+  at h stream = with_session (with_kept s h) n (Open stream)
 
   -- it was closed
-  abbrev shut : History → State
-  shut h = with_session (with_history s h) n Closed
+  abbrev shut : Kept → State
+  shut h = with_session (with_kept s h) n Closed
 
-  at_open : (h : History) (x : List ℕ) → is_open (session_at (at h x) n) ≡ true
-  at_open h x = ap is_open (session_at-same (with_history s h) n (Open x) lt)
+  at_open : (h : Kept) (x : List ℕ) → is_open (session_at (at h x) n) ≡ true
+  at_open h x = ap is_open (session_at-same (with_kept s h) n (Open x) lt)
 
-  shut_closed : (h : History) → is_open (session_at (shut h) n) ≡ false
-  shut_closed h = ap is_open (session_at-same (with_history s h) n Closed lt)
+  shut_closed : (h : Kept) → is_open (session_at (shut h) n) ≡ false
+  shut_closed h = ap is_open (session_at-same (with_kept s h) n Closed lt)
 
-  shut_at : (h : History) → session_at (shut h) n ≡ Closed
-  shut_at h = session_at-same (with_history s h) n Closed lt
+  shut_at : (h : Kept) → session_at (shut h) n ≡ Closed
+  shut_at h = session_at-same (with_kept s h) n Closed lt
 
-  shut_twice : (h : History) (x : List ℕ) → with_session (at h x) n Closed ≡ shut h
-  shut_twice h x = with_session-twice (with_history s h) n (Open x) Closed
+  shut_twice : (h : Kept) (x : List ℕ) → with_session (at h x) n Closed ≡ shut h
+  shut_twice h x = with_session-twice (with_kept s h) n (Open x) Closed
 
   -- ---- what the stream is does not matter to the records
 
-  -- a step from one stream is one from another, and leads to the same history
-  abbrev Swaps : (State → List OutFrame → State → Type 0) → History → (x y : List ℕ) (outs : List OutFrame) (t : State) → Type 0
-  Swaps Does h x y outs t = (k : History) × (((t ≡ at k x) × Does (at h y) outs (at k y)) ⊎ ((t ≡ shut k) × Does (at h y) outs (shut k)))
+  -- a step from one stream is one from another, and leads to the same things kept
+  abbrev Swaps : (State → List OutFrame → State → Type 0) → Kept → (x y : List ℕ) (outs : List OutFrame) (t : State) → Type 0
+  Swaps Does h x y outs t = (k : Kept) × (((t ≡ at k x) × Does (at h y) outs (at k y)) ⊎ ((t ≡ shut k) × Does (at h y) outs (shut k)))
 
-  swap_answer : (bytes : List ℕ) (h : History) (x y : List ℕ) (reply : Option (List ℕ)) (k : History) → Answered mem (at h x) bytes reply k → Answered mem (at h y) bytes reply k
-  swap_answer bytes h x y reply k (by_meaning e f) = by_meaning e f
+  swap_answer : (bytes : List ℕ) (h : Kept) (x y : List ℕ) (reply : Option (List ℕ)) (k : Kept) → Answered mem (at h x) bytes reply k → Answered mem (at h y) bytes reply k
+  swap_answer bytes h x y reply k (by_meaning room e f) = by_meaning room e f
+  swap_answer bytes h x y reply k (put_off full e f) = put_off full e f
   swap_answer bytes h x y reply k (out_of_memory scarce out f) = out_of_memory scarce out f
 
-  swap_reply : (bytes : List ℕ) (h : History) (x y : List ℕ) (reply : Option (List ℕ)) (k : History) (outs : List OutFrame) (t : State) → Answered mem (at h x) bytes reply k → outs ≡ frame_for n reply ∷ []
-      → t ≡ after_reply n reply (with_history (at h x) k) → Swaps (StepRecord mem n bytes) h x y outs t
+  swap_reply : (bytes : List ℕ) (h : Kept) (x y : List ℕ) (reply : Option (List ℕ)) (k : Kept) (outs : List OutFrame) (t : State) → Answered mem (at h x) bytes reply k → outs ≡ frame_for n reply ∷ []
+      → t ≡ after_reply n reply (with_kept (at h x) k) → Swaps (StepRecord mem n bytes) h x y outs t
   swap_reply bytes h x y None k outs t a e f =
       (k, inr (f ∙ shut_twice k x, record { reply = None; after = k; answered = swap_answer bytes h x y None k a; answers = e; leads = sym (shut_twice k y) }))
   swap_reply bytes h x y (Some reply) k outs t a e f =
       (k, inl (f, record { reply = Some reply; after = k; answered = swap_answer bytes h x y (Some reply) k a; answers = e; leads = refl }))
 
-  swap_record : (bytes : List ℕ) (h : History) (x y : List ℕ) (outs : List OutFrame) (t : State) → StepRecord mem n bytes (at h x) outs t → Swaps (StepRecord mem n bytes) h x y outs t
+  swap_record : (bytes : List ℕ) (h : Kept) (x y : List ℕ) (outs : List OutFrame) (t : State) → StepRecord mem n bytes (at h x) outs t → Swaps (StepRecord mem n bytes) h x y outs t
   swap_record bytes h x y outs t p = swap_reply bytes h x y p.reply p.after outs t p.answered p.answers p.leads
 
-  swap_records : (records : List (List ℕ)) (h : History) (x y : List ℕ) (outs : List OutFrame) (t : State) → StepRecords mem n records (at h x) outs t → Swaps (StepRecords mem n records) h x y outs t
+  swap_records : (records : List (List ℕ)) (h : Kept) (x y : List ℕ) (outs : List OutFrame) (t : State) → StepRecords mem n records (at h x) outs t → Swaps (StepRecords mem n records) h x y outs t
   swap_records [] h x y outs t p = (h, inl (p.1, (p.0, refl)))
   swap_records (bytes ∷ records) h x y outs t p =
       let First : State → List OutFrame → State → Type 0 = StepRecord mem n bytes in
       let Both : State → List OutFrame → State → Type 0 = Then First (StepRecords mem n records) in
       let d = of_open Both n (at h x) outs t (at_open h x) p in
       let swapped = swap_record bytes h x y d.1 d.0 d.3 in
-      let k : History = swapped.0 in
+      let k : Kept = swapped.0 in
       elim swapped.1 [
         | inl f ↦
             let rest = swap_records records k x y d.2 t (subst (λ (u : State). StepRecords mem n records u d.2 t) f.0 d.4) in
@@ -84,7 +84,7 @@ module _ (mem : Memory) (s : State) (n : ℕ) (lt : n < length s.sessions) where
       ]
 
   -- what a stream does at its end
-  ends_first : (progress : Progress) (h : History) (x : List ℕ) (outs : List OutFrame) (t : State) → StepProgress n progress (at h x) outs t
+  ends_first : (progress : Progress) (h : Kept) (x : List ℕ) (outs : List OutFrame) (t : State) → StepProgress n progress (at h x) outs t
       → ((outs ≡ []) × (t ≡ at h x)) ⊎ ((progress ≡ TooLong) × (outs ≡ frame.Closed n ∷ []) × (t ≡ shut h))
   ends_first (AtHeader part) h x outs t p = inl p
   ends_first (InFragment last due) h x outs t p = inl p
@@ -100,10 +100,10 @@ module _ (mem : Memory) (s : State) (n : ℕ) (lt : n < length s.sessions) where
 
     -- where they begin
     abbrev begun : State
-    begun = at s.history (stream ++ (p ++ q))
+    begun = at s.kept (stream ++ (p ++ q))
 
     -- a session that the first closes, by a record
-    closed_first : (fits : AreBytes stream) (p_fits : AreBytes p) (q_fits : AreBytes q) (records : List (List ℕ)) (end : Received) (outs : List OutFrame) (h : History) → Completes stream p records end
+    closed_first : (fits : AreBytes stream) (p_fits : AreBytes p) (q_fits : AreBytes q) (records : List (List ℕ)) (end : Received) (outs : List OutFrame) (h : Kept) → Completes stream p records end
         → StepRecords mem n records begun outs (shut h) → Whole_step outs (shut h)
     closed_first fits p_fits q_fits records end outs h c steps =
         let k = completed stream (p ++ q) p q c.before records c.part end fits (bytes-append p q p_fits q_fits) refl c.read c.goes_on in
@@ -115,7 +115,7 @@ module _ (mem : Memory) (s : State) (n : ℕ) (lt : n < length s.sessions) where
     text_is = append_assoc stream p q
 
     -- one that the first closes, by a record that is too long
-    too_long_first : (records : List (List ℕ)) (bytes : List ℕ) (outs : List OutFrame) (h : History) → Completes stream p records (record { bytes = bytes; progress = TooLong })
+    too_long_first : (records : List (List ℕ)) (bytes : List ℕ) (outs : List OutFrame) (h : Kept) → Completes stream p records (record { bytes = bytes; progress = TooLong })
         → StepRecords mem n records begun outs (at h (stream ++ (p ++ q))) → Whole_step (outs ++ frame.Closed n ∷ []) (shut h)
     too_long_first records bytes outs h c steps =
         let y : List ℕ = stream ++ (p ++ q) in
@@ -126,7 +126,7 @@ module _ (mem : Memory) (s : State) (n : ℕ) (lt : n < length s.sessions) where
         (records, end, record { before = c.before; part = c.part; read = c.read; goes_on = goes_on }, (at h y, outs, frame.Closed n ∷ [], steps, where_open (Closes n) n (at h y) (frame.Closed n ∷ []) (shut h) (at_open h y) closes, refl))
 
     -- one that the first leaves open
-    open_first : (records later : List (List ℕ)) (end last : Received) (outs more rest : List OutFrame) (h : History) (mid new : State) → Completes stream p records end → Completes (stream ++ p) q later last
+    open_first : (records later : List (List ℕ)) (end last : Received) (outs more rest : List OutFrame) (h : Kept) (mid new : State) → Completes stream p records end → Completes (stream ++ p) q later last
         → StepRecords mem n records begun outs (at h (stream ++ (p ++ q))) → StepRecords mem n later (at h (stream ++ (p ++ q))) more mid → StepProgress n last.progress mid rest new
         → Whole_step (outs ++ (more ++ rest)) new
     open_first records later end last outs more rest h mid new c d steps further ends =
@@ -144,7 +144,7 @@ module _ (mem : Memory) (s : State) (n : ℕ) (lt : n < length s.sessions) where
     passes_second : (x : Session) (outs further : List OutFrame) (mid new : State) → x ≡ Closed → StepBytes mem x n q mid further new → Passes mid further new
     passes_second x outs further mid new e step = rw e at step
 
-    cut_shut : AreBytes stream → AreBytes p → AreBytes q → (records : List (List ℕ)) (end : Received) (outs rest further : List OutFrame) (h : History) (first mid new : State) → Completes stream p records end → first ≡ shut h
+    cut_shut : AreBytes stream → AreBytes p → AreBytes q → (records : List (List ℕ)) (end : Received) (outs rest further : List OutFrame) (h : Kept) (first mid new : State) → Completes stream p records end → first ≡ shut h
         → StepRecords mem n records begun outs (shut h) → StepProgress n end.progress first rest mid → StepBytes mem (session_at mid n) n q mid further new → Whole_step ((outs ++ rest) ++ further) new
     cut_shut fits p_fits q_fits records end outs rest further h first mid new c is steps ends second =
         let passed = progress_passes n end.progress (shut h) rest mid (shut_closed h) (subst (λ (u : State). StepProgress n end.progress u rest mid) is ends) in
@@ -156,7 +156,7 @@ module _ (mem : Memory) (s : State) (n : ℕ) (lt : n < length s.sessions) where
         let here = subst (λ (o : List OutFrame). Whole_step o (shut h)) (sym none) whole in
         subst (λ (u : State). Whole_step ((outs ++ rest) ++ further) u) (sym (later.1 ∙ passed.1)) here
 
-    cut_too_long : (records : List (List ℕ)) (end : Received) (outs rest further : List OutFrame) (h : History) (mid new : State) → Completes stream p records end → end.progress ≡ TooLong
+    cut_too_long : (records : List (List ℕ)) (end : Received) (outs rest further : List OutFrame) (h : Kept) (mid new : State) → Completes stream p records end → end.progress ≡ TooLong
         → StepRecords mem n records begun outs (at h (stream ++ (p ++ q))) → rest ≡ frame.Closed n ∷ [] → mid ≡ shut h → StepBytes mem (session_at mid n) n q mid further new
         → Whole_step ((outs ++ rest) ++ further) new
     cut_too_long records end outs rest further h mid new c long steps rest_is mid_is second =
@@ -168,15 +168,15 @@ module _ (mem : Memory) (s : State) (n : ℕ) (lt : n < length s.sessions) where
         let here = subst (λ (o : List OutFrame). Whole_step o (shut h)) (sym all) whole in
         subst (λ (u : State). Whole_step ((outs ++ rest) ++ further) u) (sym (later.1 ∙ mid_is)) here
 
-    cut_still_open : (records : List (List ℕ)) (end : Received) (outs rest further : List OutFrame) (h : History) (mid new : State) → Completes stream p records end
+    cut_still_open : (records : List (List ℕ)) (end : Received) (outs rest further : List OutFrame) (h : Kept) (mid new : State) → Completes stream p records end
         → StepRecords mem n records begun outs (at h (stream ++ (p ++ q))) → rest ≡ [] → mid ≡ at h (stream ++ p) → StepBytes mem (session_at mid n) n q mid further new
         → Whole_step ((outs ++ rest) ++ further) new
     cut_still_open records end outs rest further h mid new c steps rest_is mid_is second =
         let y : List ℕ = stream ++ (p ++ q) in
         let x : State = at h (stream ++ p) in
         let here : StepBytes mem (session_at x n) n q x further new = subst (λ (u : State). StepBytes mem (session_at u n) n q u further new) mid_is second in
-        let step = subst (λ (v : Session). StepBytes mem v n q x further new) (session_at-same (with_history s h) n (Open (stream ++ p)) lt) here in
-        let fed_is : with_session x n (Open ((stream ++ p) ++ q)) ≡ at h y = with_session-twice (with_history s h) n (Open (stream ++ p)) (Open ((stream ++ p) ++ q)) ∙ ap (at h) text_is in
+        let step = subst (λ (v : Session). StepBytes mem v n q x further new) (session_at-same (with_kept s h) n (Open (stream ++ p)) lt) here in
+        let fed_is : with_session x n (Open ((stream ++ p) ++ q)) ≡ at h y = with_session-twice (with_kept s h) n (Open (stream ++ p)) (Open ((stream ++ p) ++ q)) ∙ ap (at h) text_is in
         let t = step.3 in
         let further_steps = subst (λ (u : State). StepRecords mem n step.0 u t.1 t.0) fed_is t.3 in
         let whole = open_first records step.0 end step.1 outs t.1 t.2 h t.0 new c step.2 steps further_steps t.4 in
@@ -189,8 +189,8 @@ module _ (mem : Memory) (s : State) (n : ℕ) (lt : n < length s.sessions) where
     cut_open fits p_fits q_fits outs further mid new first second =
         let t = first.3 in
         let all : (t.1 ++ t.2) ++ further ≡ outs ++ further = ap (λ (o : List OutFrame). o ++ further) (sym t.5) in
-        let swapped = swap_records first.0 s.history (stream ++ p) (stream ++ (p ++ q)) t.1 t.0 t.3 in
-        let h : History = swapped.0 in
+        let swapped = swap_records first.0 s.kept (stream ++ p) (stream ++ (p ++ q)) t.1 t.0 t.3 in
+        let h : Kept = swapped.0 in
         subst (λ (o : List OutFrame). Whole_step o new) all (
         elim swapped.1 [
           | inr r ↦ cut_shut fits p_fits q_fits first.0 first.1 t.1 t.2 further h t.0 mid new first.2 r.0 r.1 t.4 second

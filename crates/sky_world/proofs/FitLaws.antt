@@ -1,5 +1,5 @@
 -- No answer has more bytes than a reply has room for.
-use Rattle.std.proofs.Common.{◌≡◌, ◌+◌, ◌*◌, ◌/◌, ◌%◌, ◌-◌, ◌≤◌, ℕ, Bool, true, false, not, ◌&&◌, Option, Some, None, Result, Ok, Err, IfOk, OnOk, List, [], ◌∷◌, ◌++◌, map, flat_map, length, min, take, drop, refl, sym, ap, subst, ◌∙◌, arith}
+use Rattle.std.proofs.Common.{◌≡◌, ◌+◌, ◌*◌, ◌/◌, ◌%◌, ◌-◌, ◌≤◌, ℕ, Bool, true, false, not, ◌&&◌, Option, Some, None, List, [], ◌∷◌, ◌++◌, map, flat_map, length, min, take, drop, refl, sym, ap, subst, ◌∙◌, arith}
 use Rattle.std.specs.Prelude.{sum_by, unwrap_or, nat_le}
 use Rattle.std.proofs.lemmas.List.{length-append, length-replicate, length-take}
 use Rattle.std.proofs.lemmas.List.Sums.{sum_by-cons}
@@ -19,7 +19,6 @@ use Rattle.sky_nfs.specs.declared.answer.Answer.{Answer}
 use Rattle.sky_nfs.specs.declared.call.Call.{Call}
 use Rattle.sky_nfs.specs.declared.call.Call.TheVariants as call
 use Rattle.sky_nfs.specs.declared.status.NfsStatus.{NfsStatus}
-use Rattle.sky_nfs.specs.declared.status.NfsStatus.TheVariants.{ServerFault}
 use Rattle.sky_nfs.proofs.KeptLemmas.{AllPassed, passed}
 use Rattle.sky_nfs.proofs.ProcedureLemmas.{tree_after-reading}
 use Rattle.sky_nfs.proofs.ValidityLemmas.{each-node_at}
@@ -155,24 +154,18 @@ data_most t after epoch cred (call.PathConf object) refusal e valid = omega arit
 data_most t after epoch cred (call.Commit file offset count) refusal e valid = omega arith
 
 -- the answer of each procedure that leads to a valid tree
-answer_fits : (t : Tree) (epoch : ℕ) (cred : Cred) (c : Call) (moment : Moment) → IsValidTree (procedure t epoch cred c moment).tree → length (answer_bytes (procedure t epoch cred c moment).answer) ≤ 65779
+pub answer_fits : (t : Tree) (epoch : ℕ) (cred : Cred) (c : Call) (moment : Moment) → IsValidTree (procedure t epoch cred c moment).tree → length (answer_bytes (procedure t epoch cred c moment).answer) ≤ 65779
 unfolding procedure
 answer_fits t epoch cred c moment valid =
     let after = tree_after t cred c moment in
     let before : is_change c ≡ false → IsValidTree t = λ reads. subst IsValidTree (tree_after-reading t cred c moment reads) valid in
     omega (arith, answer_most (answer_of (refusal_of t cred c) t after epoch cred c), data_most t after epoch cred c (refusal_of t cred c) refl before)
 
--- if there is one
-pub answered_fits : {E : Type 0} (r : Result Answer E) (t new : Tree) (epoch : ℕ) (cred : Cred) (c : Call) (moment : Moment) → IfOk r (λ a. a ≡ (procedure t epoch cred c moment).answer)
-    → OnOk r (new ≡ (procedure t epoch cred c moment).tree) → IsValidTree new → IfOk r (λ a. length (answer_bytes a) ≤ 65779)
-answered_fits (Ok a) t new epoch cred c moment answer tree valid = rw answer (answer_fits t epoch cred c moment (subst IsValidTree tree valid))
-answered_fits (Err e) t new epoch cred c moment answer tree valid = tt
-
 -- an answer of a status alone has no data
-no_data : (procedure : ℕ) → data_length (bare_answer procedure ServerFault) ≡ 0
-no_data procedure =
-    all-at (λ a. data_length a ≡ 0) (bare_answers ServerFault) procedure Answer.Null
+no_data : (procedure : ℕ) (status : NfsStatus) → data_length (bare_answer procedure status) ≡ 0
+no_data procedure status =
+    all-at (λ a. data_length a ≡ 0) (bare_answers status) procedure Answer.Null
     ((refl, (refl, (refl, (refl, (refl, (refl, (refl, (refl, (refl, (refl, (refl, (refl, (refl, (refl, (refl, (refl, (refl, (refl, (refl, (refl, (refl, (refl, tt))))))))))))))))))))))) refl
 
-pub bare_fits : (procedure : ℕ) → length (answer_bytes (bare_answer procedure ServerFault)) ≤ 65779
-bare_fits procedure = omega (arith, answer_most (bare_answer procedure ServerFault), no_data procedure)
+pub bare_fits : (procedure : ℕ) (status : NfsStatus) → length (answer_bytes (bare_answer procedure status)) ≤ 65779
+bare_fits procedure status = omega (arith, answer_most (bare_answer procedure status), no_data procedure status)

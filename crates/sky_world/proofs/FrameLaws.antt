@@ -4,10 +4,10 @@ use Rattle.std.specs.List.{AllByRecursion}
 use Rattle.sky_record.specs.Stream.{Progress, AtHeader, InFragment, Whole, TooLong, Received}
 use Rattle.sky_record.proofs.Reading.{completes_some, completes_one}
 use Rattle.sky_script.specs.Frame as frame
-use Rattle.sky_script.specs.Frame.{InFrame, OutFrame, session_count}
+use Rattle.sky_script.specs.Frame.{InFrame, OutFrame, Counted, session_count}
 use Rattle.sky_world.specs.Bytes.{AreBytes, HasBytes, HasByteStreams, CarriesBytes}
-use Rattle.sky_nfs.specs.History.{History}
-use Rattle.sky_world.specs.Meaning.{State, Session, Absent, Open, Closed, Memory, Ample, start, after_reply, session_at, with_history, with_session, ended, Then, Closes, StepRecord, StepRecords, StepProgress, StepBytes, Step, Steps, IsStep}
+use Rattle.sky_journal.specs.Journal.{JournalView}
+use Rattle.sky_world.specs.Meaning.{State, Session, Absent, Open, Closed, Memory, Ample, start, stats_of, after_reply, session_at, with_kept, with_session, ended, Then, Closes, StepRecord, StepRecords, StepProgress, StepBytes, Step, Steps, IsStep}
 use Rattle.sky_world.proofs.SessionLaws.{all-replicate, all-set, all-at}
 use Rattle.sky_world.proofs.StepLaws.{open_or_not, of_open, of_closed, records_some, progress_some, IsOne, both, passes_one, then_one, records_one, progress_one}
 
@@ -28,7 +28,7 @@ reply_keeps n (Some bytes) s h = h
 
 record_keeps : (mem : Memory) (n : ℕ) (bytes : List ℕ) → Keeps (StepRecord mem n bytes)
 unfolding Keeps
-record_keeps mem n bytes s outs new does h = stays (after_reply n does.reply (with_history s does.after)) new does.leads (reply_keeps n does.reply (with_history s does.after) h)
+record_keeps mem n bytes s outs new does h = stays (after_reply n does.reply (with_kept s does.after)) new does.leads (reply_keeps n does.reply (with_kept s does.after) h)
 
 records_keep : (mem : Memory) (n : ℕ) (records : List (List ℕ)) → Keeps (StepRecords mem n records)
 unfolding Keeps
@@ -85,6 +85,7 @@ step_some mem old (frame.Close n) h carries is =
     let x : Session = ended (session_at old n) in
     ([], with_session old n x, all-set HasBytes old.sessions n x h (ended_has (session_at old n) (all-at HasBytes old.sessions n Absent h tt)), (refl, refl))
 step_some mem old (frame.SetMoment at) h carries is = ([], record old { moment = at }, h, (refl, refl))
+step_some mem old frame.Stat h carries is = (Counted (stats_of old) ∷ [], old, h, (refl, refl))
 step_some mem old frame.End h carries is = absurd is
 
 -- ---- and only one
@@ -105,6 +106,7 @@ step_one old (frame.Begin n) a b t u p q = both old a b [] t u (with_session old
 step_one old (frame.Bytes n payload) a b t u p q = bytes_one (session_at old n) n payload old a b t u p q
 step_one old (frame.Close n) a b t u p q = both old a b [] t u (with_session old n (ended (session_at old n))) p q
 step_one old (frame.SetMoment at) a b t u p q = both old a b [] t u (record old { moment = at }) p q
+step_one old frame.Stat a b t u p q = both old a b (Counted (stats_of old) ∷ []) t u old p q
 step_one old frame.End a b t u p q = absurd p
 
 -- ---- frames, one after the other
@@ -116,8 +118,8 @@ steps_some mem s (f ∷ frames) h all =
     let rest = steps_some mem first.1 frames first.2 all.1 in
     (first.0 ++ rest.0, rest.1, (first.1, first.0, rest.0, first.3, rest.2, refl))
 
-pub frames_some : (mem : Memory) (frames : List InFrame) → AllByRecursion (λ f. IsStep f × CarriesBytes f) frames → (outs : List OutFrame) × (last : State) × Steps mem start frames outs last
-frames_some mem frames all = steps_some mem start frames (all-replicate HasBytes session_count Absent tt) all
+pub frames_some : (journal : JournalView) (mem : Memory) (frames : List InFrame) → AllByRecursion (λ f. IsStep f × CarriesBytes f) frames → (outs : List OutFrame) × (last : State) × Steps mem (start journal) frames outs last
+frames_some journal mem frames all = steps_some mem (start journal) frames (all-replicate HasBytes session_count Absent tt) all
 
 pub frames_one : (s : State) (frames : List InFrame) (outs others : List OutFrame) (last other : State) → Steps Ample s frames outs last → Steps Ample s frames others other → (outs ≡ others) × (last ≡ other)
 frames_one s [] a b t u p q = passes_one s a b t u p q

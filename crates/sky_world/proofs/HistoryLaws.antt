@@ -1,4 +1,5 @@
 -- Laws of the history, and of want of memory.
+use Rattle.std.specs.Prelude.{cond}
 use Rattle.std.proofs.Common.{◌≡◌, ℕ, Bool, true, false, ◌&&◌, IsTrue, Option, Some, None, List, [], ◌∷◌, ◌++◌, inl, inr, refl, sym, ap, subst, ◌∙◌, append_assoc}
 use Rattle.std.proofs.lemmas.List.{append-nil}
 use Rattle.std.specs.List.{AllByRecursion}
@@ -6,13 +7,17 @@ use Rattle.sky_base.specs.declared.cred.Cred.{Cred}
 use Rattle.sky_base.specs.declared.moment.Moment.{Moment}
 use Rattle.sky_nfs.specs.History.{History, IsLegalHistory, last_tree, tree_after_change, tree_after_changes, is_done, are_done}
 use Rattle.sky_nfs.specs.Tree.{Tree}
+use Rattle.sky_calls.specs.Durable.{journal_after}
+use Rattle.sky_calls.specs.Stable.{is_stable_call}
+use Rattle.sky_entry.specs.Entry.{entry_bytes}
+use Rattle.sky_journal.specs.Journal.{JournalView, after_commit}
 use Rattle.sky_nfs.specs.declared.call.Call.{Call}
 use Rattle.sky_nfs.specs.declared.call.Change.{Change}
 use Rattle.sky_record.specs.Stream.{Progress, AtHeader, InFragment, Whole, TooLong}
 use Rattle.sky_script.specs.Frame as frame
 use Rattle.sky_script.specs.Frame.{InFrame, OutFrame}
 use Rattle.sky_world.specs.Laws.{TellsOutOfMemory, NoneOutOfMemory, GoesOnFrom}
-use Rattle.sky_world.specs.Meaning.{State, Session, Absent, Open, Closed, Memory, Ample, Scarce, Answered, by_meaning, out_of_memory, after_call, after_message, after_reply, service_of, session_at, with_change, with_history, with_session, is_open, frame_for, Passes, Then, Closes, StepRecord, StepRecords, StepProgress, StepBytes, Step, Steps}
+use Rattle.sky_world.specs.Meaning.{State, Kept, Session, Absent, Open, Closed, Memory, Ample, Scarce, Answered, by_meaning, put_off, out_of_memory, after_call, after_message, after_reply, called_by, kept_after, makes_stable, service_of, session_at, with_change, with_kept, with_session, is_open, frame_for, Passes, Then, Closes, StepRecord, StepRecords, StepProgress, StepBytes, Step, Steps}
 use Rattle.sky_world.specs.Message as message
 use Rattle.sky_world.specs.Message.{Message, meaning_of}
 use Rattle.sky_world.specs.Service.{RunsOut}
@@ -20,9 +25,9 @@ use Rattle.sky_world.proofs.StepLaws.{open_or_not, of_open, of_closed, where_ope
 
 -- ---- a history goes on, and stays legal
 
--- a fact of two histories that a step can give
-abbrev pub Leads : (History → History → Type 0) → (State → List OutFrame → State → Type 0) → Type 0
-Leads R Does = (s : State) (outs : List OutFrame) (t : State) → Does s outs t → R s.history t.history
+-- a fact of what is kept before and after that a step can give
+abbrev pub Leads : (Kept → Kept → Type 0) → (State → List OutFrame → State → Type 0) → Type 0
+Leads R Does = (s : State) (outs : List OutFrame) (t : State) → Does s outs t → R s.kept t.kept
 
 goes_on_same : (h k : History) → k ≡ h → GoesOnFrom h k
 goes_on_same h k e = ([], e ∙ ap (λ (c : List Change). let x : History = record h { changes = c } in x) (sym (append-nil h.changes)))
@@ -64,52 +69,75 @@ module _ (h : History) (cred : Cred) (call : Call) (moment : Moment) where
       go true e = rw e (legal_with h change e legal)
       go false e = rw e legal
 
-message_goes_on : (s : State) (m : Message) → GoesOnFrom s.history (after_message s m)
-message_goes_on s message.Close = goes_on_same s.history s.history refl
-message_goes_on s (message.Refused xid reply) = goes_on_same s.history s.history refl
-message_goes_on s (message.Mount xid call) = goes_on_same s.history s.history refl
-message_goes_on s (message.Nfs xid cred call) = call_goes_on s.history cred call s.moment
+-- the history goes on, in a journal of the same volume and size
+abbrev pub GoesOnIn : Kept → Kept → Type 0
+GoesOnIn k l = GoesOnFrom k.history l.history × (l.journal.volume ≡ k.journal.volume) × (l.journal.size ≡ k.journal.size)
 
-message_legal : (s : State) (m : Message) → IsLegalHistory s.history → IsLegalHistory (after_message s m)
+journal_same : (done stable makes : Bool) (j : JournalView) (e : List ℕ)
+    → (let k : JournalView = cond done (journal_after stable j e) (cond makes (after_commit j) j) in (k.volume ≡ j.volume) × (k.size ≡ j.size))
+journal_same true true makes j e = (refl, refl)
+journal_same true false makes j e = (refl, refl)
+journal_same false stable true j e = (refl, refl)
+journal_same false stable false j e = (refl, refl)
+
+pub call_goes_on_in : (kept : Kept) (change : Change) → GoesOnIn kept (kept_after kept change)
+call_goes_on_in kept change =
+    let same = journal_same (is_done (last_tree kept.history) change) (is_stable_call change.call) (makes_stable (last_tree kept.history) change.cred change.call) kept.journal (entry_bytes change) in
+    (call_goes_on kept.history change.cred change.call change.moment, same.0, same.1)
+
+kept_goes_on : (h k : Kept) → k ≡ h → GoesOnIn h k
+kept_goes_on h k e = (goes_on_same h.history k.history (ap (λ (x : Kept). x.history) e), ap (λ (x : Kept). x.journal.volume) e, ap (λ (x : Kept). x.journal.size) e)
+
+kept_goes_then : (h k l : Kept) → GoesOnIn h k → GoesOnIn k l → GoesOnIn h l
+kept_goes_then h k l p q = (goes_on_then h.history k.history l.history p.0 q.0, q.1 ∙ p.1, q.2 ∙ p.2)
+
+message_goes_on : (s : State) (m : Message) → GoesOnIn s.kept (after_message s m)
+message_goes_on s message.Close = kept_goes_on s.kept s.kept refl
+message_goes_on s (message.Refused xid reply) = kept_goes_on s.kept s.kept refl
+message_goes_on s (message.Mount xid call) = kept_goes_on s.kept s.kept refl
+message_goes_on s (message.Nfs xid cred call) = call_goes_on_in s.kept (called_by cred call s.moment)
+
+message_legal : (s : State) (m : Message) → IsLegalHistory s.kept.history → IsLegalHistory (after_message s m).history
 message_legal s message.Close legal = legal
 message_legal s (message.Refused xid reply) legal = legal
 message_legal s (message.Mount xid call) legal = legal
-message_legal s (message.Nfs xid cred call) legal = call_legal s.history cred call s.moment legal
+message_legal s (message.Nfs xid cred call) legal = call_legal s.kept.history cred call s.moment legal
 
--- a fact of two histories that holds of each record holds of each frame
-module _ (R : History → History → Type 0) (same : (h k : History) → k ≡ h → R h k) (both : (h k l : History) → R h k → R k l → R h l)
-    (meant : (s : State) (m : Message) → R s.history (after_message s m)) (mem : Memory) where
-  answered_leads : (s : State) (bytes : List ℕ) (reply : Option (List ℕ)) (h : History) → Answered mem s bytes reply h → R s.history h
-  answered_leads s bytes reply h (by_meaning e f) = subst (λ (x : History). R s.history x) (sym f) (meant s (meaning_of bytes))
-  answered_leads s bytes reply h (out_of_memory scarce out f) = same s.history h f
+-- a fact that holds of each record holds of each frame
+module _ (R : Kept → Kept → Type 0) (same : (h k : Kept) → k ≡ h → R h k) (both : (h k l : Kept) → R h k → R k l → R h l)
+    (meant : (s : State) (m : Message) → R s.kept (after_message s m)) (mem : Memory) where
+  answered_leads : (s : State) (bytes : List ℕ) (reply : Option (List ℕ)) (h : Kept) → Answered mem s bytes reply h → R s.kept h
+  answered_leads s bytes reply h (by_meaning room e f) = subst (λ (x : Kept). R s.kept x) (sym f) (meant s (meaning_of bytes))
+  answered_leads s bytes reply h (put_off full e f) = same s.kept h f
+  answered_leads s bytes reply h (out_of_memory scarce out f) = same s.kept h f
 
-  reply_stays : (n : ℕ) (reply : Option (List ℕ)) (s : State) → (after_reply n reply s).history ≡ s.history
+  reply_stays : (n : ℕ) (reply : Option (List ℕ)) (s : State) → (after_reply n reply s).kept ≡ s.kept
   reply_stays n None s = refl
   reply_stays n (Some bytes) s = refl
 
   record_leads : (n : ℕ) (bytes : List ℕ) → Leads R (StepRecord mem n bytes)
   record_leads n bytes s outs t p =
-      let is : t.history ≡ p.after = ap (λ (x : State). x.history) p.leads ∙ reply_stays n p.reply (with_history s p.after) in
-      subst (λ (x : History). R s.history x) (sym is) (answered_leads s bytes p.reply p.after p.answered)
+      let is : t.kept ≡ p.after = ap (λ (x : State). x.kept) p.leads ∙ reply_stays n p.reply (with_kept s p.after) in
+      subst (λ (x : Kept). R s.kept x) (sym is) (answered_leads s bytes p.reply p.after p.answered)
 
   passes_leads : Leads R Passes
-  passes_leads s outs t p = same s.history t.history (ap (λ (x : State). x.history) p.1)
+  passes_leads s outs t p = same s.kept t.kept (ap (λ (x : State). x.kept) p.1)
 
   closes_leads : (n : ℕ) → Leads R (Closes n)
-  closes_leads n s outs t p = same s.history t.history (ap (λ (x : State). x.history) p.1)
+  closes_leads n s outs t p = same s.kept t.kept (ap (λ (x : State). x.kept) p.1)
 
-  records_lead : (n : ℕ) (records : List (List ℕ)) → Leads R (StepRecords mem n records)
+  pub records_lead : (n : ℕ) (records : List (List ℕ)) → Leads R (StepRecords mem n records)
   records_lead n [] s outs t p = passes_leads s outs t p
   records_lead n (bytes ∷ records) s outs t p =
       let Both : State → List OutFrame → State → Type 0 = Then (StepRecord mem n bytes) (StepRecords mem n records) in
       elim (open_or_not n s) [
         | inl e ↦
             let d = of_open Both n s outs t e p in
-            both s.history d.0.history t.history (record_leads n bytes s d.1 d.0 d.3) (records_lead n records d.0 d.2 t d.4)
+            both s.kept d.0.kept t.kept (record_leads n bytes s d.1 d.0 d.3) (records_lead n records d.0 d.2 t d.4)
         | inr e ↦ passes_leads s outs t (of_closed Both n s outs t e p)
       ]
 
-  progress_leads : (n : ℕ) (progress : Progress) → Leads R (StepProgress n progress)
+  pub progress_leads : (n : ℕ) (progress : Progress) → Leads R (StepProgress n progress)
   progress_leads n (AtHeader part) s outs t p = passes_leads s outs t p
   progress_leads n (InFragment last due) s outs t p = passes_leads s outs t p
   progress_leads n Whole s outs t p = passes_leads s outs t p
@@ -122,27 +150,37 @@ module _ (R : History → History → Type 0) (same : (h k : History) → k ≡ 
   bytes_lead : (x : Session) (n : ℕ) (payload : List ℕ) → Leads R (StepBytes mem x n payload)
   bytes_lead (Open stream) n payload s outs t p =
       let d = p.3 in
-      both s.history d.0.history t.history (records_lead n p.0 (with_session s n (Open (stream ++ payload))) d.1 d.0 d.3) (progress_leads n p.1.progress d.0 d.2 t d.4)
+      both s.kept d.0.kept t.kept (records_lead n p.0 (with_session s n (Open (stream ++ payload))) d.1 d.0 d.3) (progress_leads n p.1.progress d.0 d.2 t d.4)
   bytes_lead Absent n payload s outs t p = passes_leads s outs t p
   bytes_lead Closed n payload s outs t p = passes_leads s outs t p
 
-  pub step_leads : (s : State) (f : InFrame) (outs : List OutFrame) (t : State) → Step mem s f outs t → R s.history t.history
-  step_leads s (frame.Begin n) outs t p = same s.history t.history (ap (λ (x : State). x.history) p.1)
+  pub step_leads : (s : State) (f : InFrame) (outs : List OutFrame) (t : State) → Step mem s f outs t → R s.kept t.kept
+  step_leads s (frame.Begin n) outs t p = same s.kept t.kept (ap (λ (x : State). x.kept) p.1)
   step_leads s (frame.Bytes n payload) outs t p = bytes_lead (session_at s n) n payload s outs t p
-  step_leads s (frame.Close n) outs t p = same s.history t.history (ap (λ (x : State). x.history) p.1)
-  step_leads s (frame.SetMoment at) outs t p = same s.history t.history (ap (λ (x : State). x.history) p.1)
+  step_leads s (frame.Close n) outs t p = same s.kept t.kept (ap (λ (x : State). x.kept) p.1)
+  step_leads s (frame.SetMoment at) outs t p = same s.kept t.kept (ap (λ (x : State). x.kept) p.1)
+  step_leads s frame.Stat outs t p = same s.kept t.kept (ap (λ (x : State). x.kept) p.1)
   step_leads s frame.End outs t p = absurd p
 
 -- a history stays legal
-abbrev StaysLegal : History → History → Type 0
-StaysLegal h k = IsLegalHistory h → IsLegalHistory k
+abbrev StaysLegal : Kept → Kept → Type 0
+StaysLegal h k = IsLegalHistory h.history → IsLegalHistory k.history
 
-pub step_goes_on : (mem : Memory) (old new : State) (f : InFrame) (outs : List OutFrame) → Step mem old f outs new → GoesOnFrom old.history new.history
-step_goes_on mem old new f outs step = step_leads GoesOnFrom goes_on_same goes_on_then message_goes_on mem old f outs new step
+pub step_goes_on_in : (mem : Memory) (old new : State) (f : InFrame) (outs : List OutFrame) → Step mem old f outs new → GoesOnIn old.kept new.kept
+step_goes_on_in mem old new f outs step = step_leads GoesOnIn kept_goes_on kept_goes_then message_goes_on mem old f outs new step
 
-pub step_legal : (mem : Memory) (old new : State) (f : InFrame) (outs : List OutFrame) → Step mem old f outs new → IsLegalHistory old.history → IsLegalHistory new.history
+pub records_go_on_in : (mem : Memory) (n : ℕ) (records : List (List ℕ)) (old : State) (outs : List OutFrame) (new : State) → StepRecords mem n records old outs new → GoesOnIn old.kept new.kept
+records_go_on_in mem n records old outs new steps = records_lead GoesOnIn kept_goes_on kept_goes_then message_goes_on mem n records old outs new steps
+
+pub progress_goes_on_in : (mem : Memory) (n : ℕ) (progress : Progress) (old : State) (outs : List OutFrame) (new : State) → StepProgress n progress old outs new → GoesOnIn old.kept new.kept
+progress_goes_on_in mem n progress old outs new step = progress_leads GoesOnIn kept_goes_on kept_goes_then message_goes_on mem n progress old outs new step
+
+pub step_goes_on : (mem : Memory) (old new : State) (f : InFrame) (outs : List OutFrame) → Step mem old f outs new → GoesOnFrom old.kept.history new.kept.history
+step_goes_on mem old new f outs step = (step_goes_on_in mem old new f outs step).0
+
+pub step_legal : (mem : Memory) (old new : State) (f : InFrame) (outs : List OutFrame) → Step mem old f outs new → IsLegalHistory old.kept.history → IsLegalHistory new.kept.history
 step_legal mem old new f outs step =
-    step_leads StaysLegal (λ h k e legal. subst IsLegalHistory (sym e) legal) (λ h k l p q legal. q (p legal)) message_legal mem old f outs new step
+    step_leads StaysLegal (λ h k e legal. subst (λ (x : Kept). IsLegalHistory x.history) (sym e) legal) (λ h k l p q legal. q (p legal)) message_legal mem old f outs new step
 
 -- ---- want of memory
 
@@ -166,8 +204,9 @@ none_second (x ∷ xs) ys h = none_second xs ys h.1
 none_parts : (outs xs ys : List OutFrame) → outs ≡ xs ++ ys → NoneOutOfMemory outs → NoneOutOfMemory xs × NoneOutOfMemory ys
 none_parts outs xs ys e h = let k = subst NoneOutOfMemory e h in (none_first xs ys k, none_second xs ys k)
 
-answer_may : (s : State) (bytes : List ℕ) (reply : Option (List ℕ)) (h : History) → Answered Ample s bytes reply h → Answered Scarce s bytes reply h
-answer_may s bytes reply h (by_meaning e f) = by_meaning e f
+answer_may : (s : State) (bytes : List ℕ) (reply : Option (List ℕ)) (h : Kept) → Answered Ample s bytes reply h → Answered Scarce s bytes reply h
+answer_may s bytes reply h (by_meaning room e f) = by_meaning room e f
+answer_may s bytes reply h (put_off full e f) = put_off full e f
 answer_may s bytes reply h (out_of_memory scarce out f) = out_of_memory refl out f
 
 record_may : (n : ℕ) (bytes : List ℕ) → May (λ mem. StepRecord mem n bytes)
@@ -195,14 +234,16 @@ step_may s t (frame.Begin n) outs p = p
 step_may s t (frame.Bytes n payload) outs p = bytes_may (session_at s n) n payload s outs t p
 step_may s t (frame.Close n) outs p = p
 step_may s t (frame.SetMoment at) outs p = p
+step_may s t frame.Stat outs p = p
 step_may s t frame.End outs p = absurd p
 
 -- an answer that there was no memory is told
 ran_out_told : (s : State) (bytes : List ℕ) (n : ℕ) (reply : Option (List ℕ)) → RunsOut (service_of s) bytes reply → TellsOutOfMemory (frame_for n reply)
 ran_out_told s bytes n reply out = rw out.replied (out.call.xid, out.call.procedure, refl)
 
-answer_told : (s : State) (bytes : List ℕ) (n : ℕ) (reply : Option (List ℕ)) (h : History) → Answered Scarce s bytes reply h → (TellsOutOfMemory (frame_for n reply) → ⊥) → Answered Ample s bytes reply h
-answer_told s bytes n reply h (by_meaning e f) none = by_meaning e f
+answer_told : (s : State) (bytes : List ℕ) (n : ℕ) (reply : Option (List ℕ)) (h : Kept) → Answered Scarce s bytes reply h → (TellsOutOfMemory (frame_for n reply) → ⊥) → Answered Ample s bytes reply h
+answer_told s bytes n reply h (by_meaning room e f) none = by_meaning room e f
+answer_told s bytes n reply h (put_off full e f) none = put_off full e f
 answer_told s bytes n reply h (out_of_memory scarce out f) none = absurd (none (ran_out_told s bytes n reply out))
 
 record_told : (n : ℕ) (bytes : List ℕ) → Told (λ mem. StepRecord mem n bytes)
@@ -234,6 +275,7 @@ step_told s t (frame.Begin n) outs p none = p
 step_told s t (frame.Bytes n payload) outs p none = bytes_told (session_at s n) n payload s outs t p none
 step_told s t (frame.Close n) outs p none = p
 step_told s t (frame.SetMoment at) outs p none = p
+step_told s t frame.Stat outs p none = p
 step_told s t frame.End outs p none = absurd p
 
 pub steps_told : (s : State) (fs : List InFrame) (outs : List OutFrame) (t : State) → Steps Scarce s fs outs t → NoneOutOfMemory outs → Steps Ample s fs outs t

@@ -1,5 +1,5 @@
 -- Laws of replies that are written.
-use Rattle.std.proofs.Common.{◌≡◌, ◌≤◌, ℕ, Bool, true, false, if◌then◌else◌, Option, Some, None, List, ◌++◌, length, take, drop, refl, sym, ap, ◌∙◌, arith}
+use Rattle.std.proofs.Common.{◌≡◌, ◌≤◌, ℕ, Bool, true, false, if◌then◌else◌, Option, Some, None, Result, Ok, Err, IfOk, List, ◌++◌, length, take, drop, refl, sym, ap, subst, ◌∙◌, arith}
 use Rattle.std.proofs.Math.Seq.{drop-append_seam}
 use Rattle.std.proofs.lemmas.List.{take-append-le, length-take-le}
 use Rattle.std.specs.Option.{option_map}
@@ -35,3 +35,9 @@ pub same_behind : (r : Option ℕ) (buffer out : List ℕ) (at k : ℕ) → at �
     → option_map (λ n. take n (drop at (put_mid at k buffer out))) r ≡ option_map (λ n. take n out) r
 same_behind None buffer out at k within long fits = refl
 same_behind (Some n) buffer out at k within long fits = ap Some (written_behind buffer out at k n within (omega (arith, fits, long)))
+
+-- what holds of a record that was written behind a prefix that stays
+pub behind : {E : Type 0} (r : Result (Option ℕ) E) (P : Option (List ℕ) → Type 0) (buffer out : List ℕ) (at k : ℕ) → at ≤ length buffer → 131072 ≤ length out → IfOk r (λ w. IfSome w (λ n. n ≤ 131072))
+    → IfOk r (λ w. P (option_map (λ n. take n out) w)) → IfOk r (λ w. P (option_map (λ n. take n (drop at (put_mid at k buffer out))) w))
+behind (Ok w) P buffer out at k within long fits holds = subst P (sym (same_behind w buffer out at k within long fits)) holds
+behind (Err e) P buffer out at k within long fits holds = tt

@@ -1,13 +1,13 @@
 -- Laws of the steps: each has an outcome, and only one.
 use Rattle.std.proofs.Common.{◌≡◌, ℕ, ◌<◌, Bool, true, false, List, [], ◌∷◌, ◌++◌, length, Option, refl, sym, ap, subst, ◌∙◌, ◌⊎◌, inl, inr, append_assoc}
+use Rattle.std.proofs.lemmas.Bool.{true≢false}
 use Rattle.std.proofs.lemmas.List.{get_or-set_same, set-set}
 use Rattle.sky_record.specs.Stream.{Progress, AtHeader, InFragment, Whole, TooLong}
 use Rattle.sky_script.specs.Frame as frame
 use Rattle.sky_script.specs.Frame.{OutFrame}
-use Rattle.sky_nfs.specs.History.{History}
-use Rattle.sky_world.specs.Meaning.{State, Session, Absent, Closed, Memory, Ample, Scarce, Answered, by_meaning, out_of_memory, after_message, after_reply, service_of, session_at, with_history, with_session, frame_for, is_open, Passes, Then, WhereOpen, Closes, StepRecord, StepRecords, StepProgress}
+use Rattle.sky_world.specs.Meaning.{State, Kept, Session, Absent, Closed, Memory, Ample, Scarce, Answered, by_meaning, put_off, out_of_memory, after_message, after_reply, puts_off, service_of, session_at, with_kept, with_session, frame_for, is_open, Passes, Then, WhereOpen, Closes, StepRecord, StepRecords, StepProgress}
 use Rattle.sky_world.specs.Message.{meaning_of}
-use Rattle.sky_world.specs.Service.{reply_to}
+use Rattle.sky_world.specs.Service.{reply_to, reply_put_off}
 
 -- ---- the session that was set
 
@@ -77,9 +77,15 @@ HasOutcome Does s = (outs : List OutFrame) × (new : State) × Does s outs new
 -- by what it means a record always has an answer
 pub record_some : (mem : Memory) (n : ℕ) (bytes : List ℕ) (s : State) → HasOutcome (StepRecord mem n bytes) s
 record_some mem n bytes s =
-    let reply : Option (List ℕ) = reply_to (service_of s) (meaning_of bytes) in
-    let after : History = after_message s (meaning_of bytes) in
-    (frame_for n reply ∷ [], after_reply n reply (with_history s after), record { reply = reply; after = after; answered = by_meaning refl refl; answers = refl; leads = refl })
+    elim (either (puts_off s (meaning_of bytes))) [
+      | inl e ↦
+          let reply : Option (List ℕ) = reply_put_off (meaning_of bytes) in
+          (frame_for n reply ∷ [], after_reply n reply (with_kept s s.kept), record { reply = reply; after = s.kept; answered = put_off e refl refl; answers = refl; leads = refl })
+      | inr e ↦
+          let reply : Option (List ℕ) = reply_to (service_of s) (meaning_of bytes) in
+          let after : Kept = after_message s (meaning_of bytes) in
+          (frame_for n reply ∷ [], after_reply n reply (with_kept s after), record { reply = reply; after = after; answered = by_meaning e refl refl; answers = refl; leads = refl })
+    ]
 
 pub records_some : (mem : Memory) (n : ℕ) (records : List (List ℕ)) (s : State) → HasOutcome (StepRecords mem n records) s
 records_some mem n [] s = ([], s, (refl, refl))
@@ -122,17 +128,21 @@ pub closes_one : (n : ℕ) → IsOne (Closes n)
 closes_one n s a b t u p q = both s a b (frame.Closed n ∷ []) t u (with_session s n Closed) p q
 
 -- where there was memory, the answer to a record is that of its meaning
-answered_one : (s : State) (bytes : List ℕ) (p q : Option (List ℕ)) (h k : History) → Answered Ample s bytes p h → Answered Ample s bytes q k → (p ≡ q) × (h ≡ k)
-answered_one s bytes p q h k (by_meaning e f) (by_meaning e' f') = (e ∙ sym e', f ∙ sym f')
+answered_one : (s : State) (bytes : List ℕ) (p q : Option (List ℕ)) (h k : Kept) → Answered Ample s bytes p h → Answered Ample s bytes q k → (p ≡ q) × (h ≡ k)
+answered_one s bytes p q h k (by_meaning room e f) (by_meaning room' e' f') = (e ∙ sym e', f ∙ sym f')
+answered_one s bytes p q h k (put_off full e f) (put_off full' e' f') = (e ∙ sym e', f ∙ sym f')
+answered_one s bytes p q h k (by_meaning room e f) (put_off full e' f') = absurd (true≢false (sym full ∙ room))
+answered_one s bytes p q h k (put_off full e f) (by_meaning room e' f') = absurd (true≢false (sym full ∙ room))
 answered_one s bytes p q h k (out_of_memory scarce out stays) other = absurd (ample_not_scarce scarce)
-answered_one s bytes p q h k (by_meaning e f) (out_of_memory scarce out stays) = absurd (ample_not_scarce scarce)
+answered_one s bytes p q h k (by_meaning room e f) (out_of_memory scarce out stays) = absurd (ample_not_scarce scarce)
+answered_one s bytes p q h k (put_off full e f) (out_of_memory scarce out stays) = absurd (ample_not_scarce scarce)
 
 pub record_one : (n : ℕ) (bytes : List ℕ) → IsOne (StepRecord Ample n bytes)
 record_one n bytes s a b t u p q =
     let same = answered_one s bytes p.reply q.reply p.after q.after p.answered q.answered in
     let outs : frame_for n p.reply ≡ frame_for n q.reply = ap (frame_for n) same.0 in (
       p.answers ∙ ap (λ (f : OutFrame). f ∷ []) outs ∙ sym q.answers,
-      p.leads ∙ ap (λ (r : Option (List ℕ)). after_reply n r (with_history s p.after)) same.0 ∙ ap (λ (h : History). after_reply n q.reply (with_history s h)) same.1 ∙ sym q.leads,
+      p.leads ∙ ap (λ (r : Option (List ℕ)). after_reply n r (with_kept s p.after)) same.0 ∙ ap (λ (h : Kept). after_reply n q.reply (with_kept s h)) same.1 ∙ sym q.leads,
     )
 
 module _ (First Second : State → List OutFrame → State → Type 0) where

@@ -1,10 +1,11 @@
 -- What the laws of recorded sessions speak of.
-use Rattle.std.specs.Prelude.{◌≡◌, ℕ, List, ◌++◌}
+use Rattle.std.specs.Prelude.{◌≡◌, ◌≤◌, ℕ, List, ◌++◌}
 use Rattle.std.specs.List.{AllByRecursion}
-use Rattle.sky_nfs.specs.History.{History}
+use Rattle.sky_nfs.specs.History.{History, history_length}
 use Rattle.sky_nfs.specs.declared.call.Change.{Change}
 use Rattle.sky_rpc.specs.Reply.{reply_record}
 use Rattle.sky_script.specs.Frame.{OutFrame, Reply}
+use Rattle.sky_world.specs.Meaning.{Kept}
 use Rattle.sky_world.specs.Service.{reply_without_memory}
 
 -- a frame tells a session that there was no memory for a call
@@ -19,3 +20,8 @@ NoneOutOfMemory outs = AllByRecursion (λ out. TellsOutOfMemory out → ⊥) out
 -- a history goes on from another: it has further changes behind the other's
 abbrev pub GoesOnFrom : History → History → Type 0
 GoesOnFrom old new = (more : List Change) × (new ≡ record old { changes = old.changes ++ more })
+
+-- the mark lies within the history
+pub record IsMarked (kept : Kept) : Type 0 where
+  pub least : kept.history.before ≤ kept.mark
+  pub most : kept.mark ≤ history_length kept.history

@@ -1,8 +1,11 @@
 pub mod Bytes
+pub mod Carried
+pub mod Disk
 pub mod Feeding
 pub mod Laws
 pub mod Meaning
 pub mod Message
+pub mod Opening
 pub mod Service
 pub mod Sessions
 pub mod Values

@@ -1,17 +1,24 @@
 -- What a recorded session means: how the frames that go in and those that come out belong together.
-use Rattle.std.specs.Prelude.{◌≡◌, ℕ, Bool, true, false, cond, List, [], ◌∷◌, ◌++◌, Option, Some, None, replicate, slice_index_or, slice_set, MatchBool}
+use Rattle.std.specs.Prelude.{◌≡◌, ℕ, Bool, true, false, cond, ◌&&◌, ◌||◌, nat_lt, is_none, List, [], ◌∷◌, ◌++◌, length, Option, Some, None, replicate, slice_index_or, slice_set, MatchBool}
 use Rattle.sky_base.specs.declared.cred.Cred.{Cred}
 use Rattle.sky_base.specs.declared.moment.Moment.{Moment}
+use Rattle.sky_calls.specs.Durable.{journal_after}
+use Rattle.sky_calls.specs.Stable.{is_stable_call}
+use Rattle.sky_entry.specs.Entry.{entry_bytes}
+use Rattle.sky_journal.specs.Journal.{JournalView, new_area, room_of, wanted_of, after_commit}
+use Rattle.sky_nfs.specs.Procedure.{refusal_of}
 use Rattle.sky_nfs.specs.declared.call.Call.{Call}
+use Rattle.sky_nfs.specs.declared.call.Call.TheVariants.{Commit}
 use Rattle.sky_nfs.specs.declared.call.Change.{Change}
-use Rattle.sky_nfs.specs.History.{History, last_tree, is_done}
-use Rattle.sky_nfs.specs.Tree.{empty_tree, epoch_start}
+use Rattle.sky_nfs.specs.History.{History, history_length, last_tree, is_done}
+use Rattle.sky_nfs.specs.Tree.{Tree, empty_tree, epoch_start}
 use Rattle.sky_record.specs.Stream.{Progress, TooLong, Received, Completes}
 use Rattle.sky_script.specs.Frame as frame
-use Rattle.sky_script.specs.Frame.{InFrame, OutFrame, Reply, Opened, session_count}
+use Rattle.sky_script.specs.Frame.{InFrame, OutFrame, Reply, Opened, Counted, session_count}
+use Rattle.sky_script.specs.declared.frame.Stats.{Stats}
 use Rattle.sky_world.specs.Message as message
 use Rattle.sky_world.specs.Message.{Message, meaning_of}
-use Rattle.sky_world.specs.Service.{Service, volume, reply_to, RunsOut}
+use Rattle.sky_world.specs.Service.{Service, reply_to, reply_put_off, RunsOut}
 
 -- a session: it has not begun, it is open with the bytes of its stream so far, or it was closed
 pub data Session : Type 0 where
@@ -19,36 +26,62 @@ pub data Session : Type 0 where
   Open : (stream : List ℕ) → Session
   Closed : Session
 
+-- what calls change: the history of the files, how many of its changes are stable, and the journal that keeps them
+pub record Kept : Type 0 where
+  -- the changes so far, and the tree that they lead to
+  pub history : History
+  -- the mark: how many of the changes each crash leaves
+  pub mark : ℕ
+  -- the journal: how far its areas are filled, and the entries that are not on its disk yet
+  pub journal : JournalView
+
 -- what the proxy is in, between two frames
 pub record State : Type 0 where
   -- the number of this opening
   pub epoch : ℕ
-  -- the changes so far, and the tree that they lead to
-  pub history : History
+  pub kept : Kept
   -- the moment of the calls that follow
   pub moment : Moment
   pub sessions : List Session
 
--- at the opening: the first epoch, no changes of the empty tree, and no session has begun
-abbrev pub start : State
-start = record {
-  epoch = 1;
-  history = record { before = 0; tree = empty_tree volume; changes = [] };
+-- the number of the first opening
+abbrev pub first_epoch : ℕ
+first_epoch = 1
+
+-- a volume's journal with areas of this size, on a disk of that many bytes, that has just been begun: its first area is open, and has no
+-- entries
+abbrev pub begun_journal : ℕ → ℕ → ℕ → JournalView
+begun_journal volume size disk = record {
+  volume = volume;
+  size = size;
+  disk = disk;
+  older = None;
+  newer = Some (new_area 0 0);
+  pending = [];
+  spare = 0;
+  down = false;
+}
+
+-- at the opening over this journal: the first epoch, no changes of the empty tree, and no session has begun
+abbrev pub start : JournalView → State
+start journal = record {
+  epoch = first_epoch;
+  kept = record { history = record { before = 0; tree = empty_tree journal.volume; changes = [] }; mark = 0; journal = journal };
   moment = epoch_start;
   sessions = replicate session_count Absent;
 }
 
 -- the frame of the opening: the first epoch, no changes, and none of them from the journal
 abbrev pub opening : OutFrame
-opening = Opened start.epoch 0 false
+opening = Opened first_epoch 0 false
 
 -- what answers the calls: the epoch, the history's last tree, and the moment
 abbrev pub service_of : State → Service
-service_of state = record { epoch = state.epoch; tree = last_tree state.history; moment = state.moment }
+service_of state = record { epoch = state.epoch; tree = last_tree state.kept.history; moment = state.moment }
 
--- the state with this history
-abbrev pub with_history : State → History → State
-with_history state history = record state { history = history }
+-- the state in which this is kept
+abbrev pub with_kept : State → Kept → State
+with_kept state kept = record state { kept = kept }
 
 -- the session of a number; behind the last one none has begun
 abbrev pub session_at : State → ℕ → Session
@@ -80,22 +113,82 @@ after_call history cred call moment =
     let change : Change = record { cred = cred; moment = moment; call = call } in
     cond (is_done (last_tree history) change) (with_change history change) history
 
--- the history after a record that means this
-abbrev pub after_message : State → Message → History
-after_message state (message.Nfs xid cred call) = after_call state.history cred call state.moment
-after_message state _ = state.history
+-- ---- what is stable
+
+-- whether a call makes all changes before it stable: a COMMIT that is answered OK (RFC 1813 section 3.3.21)
+abbrev pub makes_stable : Tree → Cred → Call → Bool
+makes_stable tree cred (Commit file offset count) = is_none (refusal_of tree cred (Commit file offset count))
+makes_stable tree cred _ = false
+
+-- whether after a call all changes so far are stable: a change that is answered OK, unless it is a WRITE whose data may wait, or
+-- a COMMIT that is answered OK
+abbrev pub leaves_stable : Tree → Change → Bool
+leaves_stable tree change = is_done tree change && is_stable_call change.call || makes_stable tree change.cred change.call
+
+-- the mark after a call: the length of the history, or as before
+abbrev pub mark_after : Kept → Change → ℕ
+mark_after kept change =
+    cond (leaves_stable (last_tree kept.history) change) (history_length (after_call kept.history change.cred change.call change.moment)) kept.mark
+
+-- the journal after a call: with the entry of a change that is answered OK, committed where that is to be stable; a COMMIT brings all
+-- pending entries to the disk
+abbrev pub journal_after_call : Tree → JournalView → Change → JournalView
+journal_after_call tree journal change =
+    cond (is_done tree change) (journal_after (is_stable_call change.call) journal (entry_bytes change)) (cond (makes_stable tree change.cred change.call) (after_commit journal) journal)
+
+-- what is kept after a call
+abbrev pub kept_after : Kept → Change → Kept
+kept_after kept change = record {
+  history = after_call kept.history change.cred change.call change.moment;
+  mark = mark_after kept change;
+  journal = journal_after_call (last_tree kept.history) kept.journal change;
+}
+
+-- a call as a change: by this caller, at this moment
+abbrev pub called_by : Cred → Call → Moment → Change
+called_by cred call moment = record { cred = cred; moment = moment; call = call }
+
+-- what is kept after a record that means this
+abbrev pub after_message : State → Message → Kept
+after_message state (message.Nfs xid cred call) = kept_after state.kept (called_by cred call state.moment)
+after_message state _ = state.kept
+
+-- whether a change that would be answered OK has no room in the journal: what the batch with it would take is more than is left
+abbrev pub lacks_room : Tree → JournalView → Change → Bool
+lacks_room tree journal change = is_done tree change && nat_lt (room_of journal) (wanted_of journal (length (entry_bytes change)))
+
+-- whether a record that means this is put off, to be tried again
+abbrev pub puts_off : State → Message → Bool
+puts_off state (message.Nfs xid cred call) = lacks_room (last_tree state.kept.history) state.kept.journal (called_by cred call state.moment)
+puts_off state _ = false
 
 -- whether there was memory for each call, or may have been none for some
 pub data Memory : Type 0 where
   Ample : Memory
   Scarce : Memory
 
--- The answer to a record, none where the session is closed, and the history after it.
-pub data Answered (memory : Memory) (old : State) (bytes : List ℕ) (reply : Option (List ℕ)) (after : History) : Type 0 where
+-- The answer to a record, none where the session is closed, and what is kept after it.
+pub data Answered (memory : Memory) (old : State) (bytes : List ℕ) (reply : Option (List ℕ)) (after : Kept) : Type 0 where
   -- by what the record means: a call of NFS is answered by its procedure on the last tree
-  by_meaning : reply ≡ reply_to (service_of old) (meaning_of bytes) → after ≡ after_message old (meaning_of bytes) → Answered memory old bytes reply after
-  -- there was no memory for a call of NFS, and the history stays
-  out_of_memory : memory ≡ Scarce → RunsOut (service_of old) bytes reply → after ≡ old.history → Answered memory old bytes reply after
+  by_meaning : puts_off old (meaning_of bytes) ≡ false → reply ≡ reply_to (service_of old) (meaning_of bytes) → after ≡ after_message old (meaning_of bytes)
+      → Answered memory old bytes reply after
+  -- the journal has no room for a change that would be answered OK: JUKEBOX (RFC 1813 section 2.6), and all stays
+  put_off : puts_off old (meaning_of bytes) ≡ true → reply ≡ reply_put_off (meaning_of bytes) → after ≡ old.kept → Answered memory old bytes reply after
+  -- there was no memory for a call of NFS, and all stays
+  out_of_memory : memory ≡ Scarce → RunsOut (service_of old) bytes reply → after ≡ old.kept → Answered memory old bytes reply after
+
+-- the numbers that are shown: how long the history is, the mark, and the epoch; there is no checkpoint and no object with items
+abbrev pub stats_of : State → Stats
+stats_of state = record {
+  history = history_length state.kept.history;
+  mark = state.kept.mark;
+  epoch = state.epoch;
+  covers = 0;
+  merged = 0;
+  residents = 0;
+  proxy_bytes = 0;
+  cleaner_bytes = 0;
+}
 
 -- ---- steps: each relates the state before, the frames of the answer, and the state after
 
@@ -129,10 +222,10 @@ after_reply number (Some reply) state = state
 -- a record of a session
 pub record StepRecord (memory : Memory) (number : ℕ) (bytes : List ℕ) (old : State) (outs : List OutFrame) (new : State) : Type 0 where
   pub reply : Option (List ℕ)
-  pub after : History
+  pub after : Kept
   pub answered : Answered memory old bytes reply after
   pub answers : outs ≡ frame_for number reply ∷ []
-  pub leads : new ≡ after_reply number reply (with_history old after)
+  pub leads : new ≡ after_reply number reply (with_kept old after)
 
 -- the records of a session in their order, as long as it is open
 abbrev pub StepRecords : Memory → ℕ → List (List ℕ) → State → List OutFrame → State → Type 0
@@ -161,6 +254,8 @@ Step memory old (frame.Begin number) outs new = (outs ≡ []) × (new ≡ with_s
 Step memory old (frame.Bytes number payload) outs new = StepBytes memory (session_at old number) number payload old outs new
 Step memory old (frame.Close number) outs new = (outs ≡ []) × (new ≡ with_session old number (ended (session_at old number)))
 Step memory old (frame.SetMoment at) outs new = (outs ≡ []) × (new ≡ record old { moment = at })
+-- what the proxy has, as numbers
+Step memory old frame.Stat outs new = (outs ≡ Counted (stats_of old) ∷ []) × (new ≡ old)
 -- the end is not answered by a step
 Step memory old frame.End outs new = ⊥
 

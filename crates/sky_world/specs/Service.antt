@@ -1,5 +1,5 @@
 -- What answers the calls of a session, and how.
-use Rattle.std.specs.Prelude.{◌≡◌, ℕ, ◌<◌, ◌==◌, cond, List, [], ◌∷◌, Option, Some, None, Result, Ok, Err, IsTrue, ◌⊎◌, slice_index_or}
+use Rattle.std.specs.Prelude.{◌≡◌, ℕ, ◌<◌, ◌==◌, ◌||◌, Bool, cond, List, [], ◌∷◌, Option, Some, None, Result, Ok, Err, IsTrue, ◌⊎◌, slice_index_or}
 use Rattle.sky_args.specs.Reading.{args_at, carries_text}
 use Rattle.sky_base.specs.declared.cred.Cred.{Cred}
 use Rattle.sky_base.specs.declared.moment.Moment.{Moment}
@@ -10,7 +10,10 @@ use Rattle.sky_nfs.specs.declared.answer.Refused.{Refused}
 use Rattle.sky_nfs.specs.declared.answer.WccData.{WccData}
 use Rattle.sky_nfs.specs.declared.call.Call.{Call}
 use Rattle.sky_nfs.specs.declared.status.NfsStatus.{NfsStatus}
-use Rattle.sky_nfs.specs.declared.status.NfsStatus.TheVariants.{ServerFault}
+use Rattle.sky_nfs.specs.declared.status.NfsStatus.TheVariants.{ServerFault, Jukebox}
+use Rattle.sky_nfs.specs.declared.call.Change.{Change}
+use Rattle.sky_nfs.specs.Calls.{procedure_of}
+use Rattle.sky_nfs.specs.History.{is_done}
 use Rattle.sky_nfs.specs.Procedure.{procedure}
 use Rattle.sky_nfs.specs.Tree.{Tree}
 use Rattle.sky_results.specs.Answers.{answer_bytes}
@@ -27,10 +30,6 @@ pub record Service : Type 0 where
   pub tree : Tree
   pub moment : Moment
 
--- the number of the volume
-abbrev pub volume : ℕ
-volume = 1
-
 -- the answer to a call of NFS: that of its procedure in the tree
 abbrev pub answer_to : Service → Cred → Call → Answer
 answer_to service cred call = (procedure service.tree service.epoch cred call service.moment).answer
@@ -39,7 +38,7 @@ answer_to service cred call = (procedure service.tree service.epoch cred call se
 abbrev pub reply_to : Service → Message → Option (List ℕ)
 reply_to service message.Close = None
 reply_to service (message.Refused xid reply) = Some (reply_record xid reply)
-reply_to service (message.Mount xid call) = Some (reply_record xid (Success (mount.results volume call)))
+reply_to service (message.Mount xid call) = Some (reply_record xid (Success (mount.results service.tree.volume call)))
 reply_to service (message.Nfs xid cred call) = Some (reply_record xid (Success (answer_bytes (answer_to service cred call))))
 
 -- the tree after it: a call of NFS leads to that of its procedure
@@ -88,20 +87,31 @@ bare_answers status =
 abbrev pub bare_answer : ℕ → NfsStatus → Answer
 bare_answer procedure status = slice_index_or (bare_answers status) procedure Null
 
+-- the record of the reply to a call that is put off for want of room in the journal: JUKEBOX, without attributes
+abbrev pub reply_put_off : Message → Option (List ℕ)
+reply_put_off (message.Nfs xid cred call) = Some (reply_record xid (Success (answer_bytes (bare_answer (procedure_of call) Jukebox))))
+reply_put_off _ = None
+
 -- the reply to a call of a procedure for which there was no memory: SERVERFAULT, or SYSTEM_ERR where the results have no
 -- status (RFC 5531 section 9)
 abbrev pub reply_without_memory : ℕ → Reply
 reply_without_memory procedure = cond (procedure == 0) SystemErr (Success (answer_bytes (bare_answer procedure ServerFault)))
 
--- a call for which memory may be wanted: its arguments have a name, a text or data; or it takes memory in the tree
-abbrev pub WantsMemory : Tree → CallMessage → Type 0
-WantsMemory tree c =
-    IsTrue (carries_text c.procedure) ⊎ ((call : Call) × (args_at c.procedure c.args ≡ Ok call) × IsTrue (takes_memory tree c.cred call))
+-- whether a call takes memory: in the tree; or it is a change that is answered OK, and has an entry in the journal
+abbrev pub takes_some : Service → Cred → Call → Bool
+takes_some service cred call =
+    let change : Change = record { cred = cred; moment = service.moment; call = call } in
+    takes_memory service.tree cred call || is_done service.tree change
+
+-- a call for which memory may be wanted: its arguments have a name, a text or data; or it takes memory
+abbrev pub WantsMemory : Service → CallMessage → Type 0
+WantsMemory service c =
+    IsTrue (carries_text c.procedure) ⊎ ((call : Call) × (args_at c.procedure c.args ≡ Ok call) × IsTrue (takes_some service c.cred call))
 
 -- A record is a call of NFS that wants memory, and it is answered that there was none.
 pub record RunsOut (service : Service) (bytes : List ℕ) (reply : Option (List ℕ)) : Type 0 where
   pub call : CallMessage
   pub read : call_at bytes ≡ Ok call
   pub served : IsServed call
-  pub wants : WantsMemory service.tree call
+  pub wants : WantsMemory service call
   pub replied : reply ≡ Some (reply_record call.xid (reply_without_memory call.procedure))

@@ -1,23 +1,62 @@
 -- What contracts see of the world, and which state it stands for.
-use Rattle.std.specs.Prelude.{◌≡◌, ℕ, Bool, false, List, length, replicate, slice_index_or, Option}
+use Rattle.std.specs.Prelude.{◌≡◌, ℕ, Bool, false, List, [], ◌∷◌, ◌++◌, length, slice_index_or, take, Option, IsSome}
+use Rattle.sky_base.specs.declared.moment.Moment.{Moment}
+use Rattle.sky_journal.specs.Journal.{JournalView, SameButSpare, last_of, number_behind}
+use Rattle.sky_nfs.specs.History.{last_tree}
+use Rattle.sky_nfs.specs.Tree.{Tree}
+use Rattle.sky_outside.specs.declared.storage.Storage.{Ghosts}
 use Rattle.sky_record.specs.Stream.{Received, IsOpen, Reads}
-use Rattle.sky_outside.specs.Told.{Given, GivenPart}
-use Rattle.sky_script.specs.Frame.{InFrame, Begin, OutFrame, out_frames, session_count}
+use Rattle.sky_outside.specs.Told.{WhereTold, Given, GivenPart}
+use Rattle.sky_script.specs.Frame.{InFrame, Begin, Bytes, OutFrame, out_frames, session_count}
+use Rattle.sky_script.specs.declared.frame.Stats.{Stats}
 use Rattle.sky_world.specs.declared.sessions.Session.{Session}
 use Rattle.sky_world.specs.declared.sessions.Session.TheVariants.{Absent, Open, Closed}
 use Rattle.sky_world.specs.Bytes.{AreBytes}
 use Rattle.sky_world.specs.Meaning as meaning
-use Rattle.sky_world.specs.Meaning.{State, start, service_of, session_at, Scarce, Step}
-use Rattle.sky_world.specs.Service.{Service}
+use Rattle.sky_world.specs.Meaning.{State, session_at, Scarce, Step}
+use Rattle.sky_world.specs.Disk.{IsKeptOn, LeavesPrefix, ReadsAsPrefix, WentOn}
+
+-- what answers the calls, in the program: the number of this opening, the tree, the journal, and the moment
+pub record ServiceView : Type 0 where
+  pub epoch : ℕ
+  pub tree : Tree
+  pub journal : JournalView
+  pub moment : Moment
 
 -- what the world is in. It has no history, but the tree that it leads to, and no streams, but what was received of the record
 -- under way in each session
 pub record WorldView : Type 0 where
   -- what answers the calls: the tree is the last one of the history
-  pub service : Service
+  pub service : ServiceView
   pub sessions : List Session
   -- whether a step answered an error
   pub ended : Bool
+
+-- a journal that changes can go through: an area is open, and no call of the disk failed
+pub record IsUp (journal : JournalView) : Type 0 where
+  pub area : IsSome journal.newer
+  pub up : journal.down ≡ false
+
+-- the numbers that are shown of a world: the number of the last change, the number of the last that is on the disk, and the epoch
+abbrev pub stats_shown : WorldView → Stats
+stats_shown world = record {
+  history = last_of world.service.journal;
+  mark = number_behind world.service.journal.newer 0;
+  epoch = world.service.epoch;
+  covers = 0;
+  merged = 0;
+  residents = 0;
+  proxy_bytes = 0;
+  cleaner_bytes = 0;
+}
+
+-- On a disk the service stands for what answers the calls of a state, and for what is kept.
+pub record ServesFor {S : Type 0} (g : Ghosts S) (service : ServiceView) (s : S) (state : State) : Type 0 where
+  pub epoch : service.epoch ≡ state.epoch
+  pub tree : service.tree ≡ last_tree state.kept.history
+  pub moment : service.moment ≡ state.moment
+  pub journal : SameButSpare state.kept.journal service.journal
+  pub kept : IsKeptOn g state.kept s
 
 -- What was received is the end of this stream of bytes, and it can go on.
 pub record StandsAt (received : Received) (stream : List ℕ) : Type 0 where
@@ -33,30 +72,44 @@ StandsFor (Open received) (meaning.Open stream) = StandsAt received stream
 StandsFor (Closed received) meaning.Closed = Unit {0}
 StandsFor _ _ = ⊥
 
--- The world stands for the state.
-pub record Stands (world : WorldView) (state : State) : Type 0 where
-  pub service : world.service ≡ service_of state
+-- On a site the world stands for the state.
+pub record Stands {S : Type 0} (g : Ghosts S) (world : WorldView) (s : S) (state : State) : Type 0 where
+  pub service : ServesFor g world.service s state
   pub count : length world.sessions ≡ session_count
   pub state_count : length state.sessions ≡ session_count
   pub sessions : (number : ℕ) → StandsFor (slice_index_or world.sessions number Absent) (session_at state number)
 
--- The world that has just opened: no session has begun.
-abbrev pub opened_world : WorldView
-opened_world = record { service = service_of start; sessions = replicate session_count Absent; ended = false }
+-- what a sink had been given before, and what after
+pub record SinkGot : Type 0 where
+  pub before : Option (List ℕ)
+  pub after : Option (List ℕ)
 
 -- In each state that the world stands for the frame has a step; the sink was given the frames that answer it, and the
--- world then stands for the state that it leads to.
-abbrev pub Stepped : WorldView → InFrame → WorldView → Option (List ℕ) → Option (List ℕ) → Type 0
-Stepped old f new before after =
-    (state : State) → Stands old state
-    → (outs : List OutFrame) × (next : State) × Step Scarce state f outs next × Stands new next × Given before after (out_frames outs)
+-- world then stands for the state that it leads to. A crash at any moment of it leaves a prefix of the history that holds
+-- the mark from before, and from now on one that holds the mark from after.
+abbrev pub Stepped : {S : Type 0} → Ghosts S → WorldView → S → InFrame → WorldView → S → SinkGot → Type 0
+Stepped g old s f new t sink =
+    (state : State) → Stands g old s state
+    → (outs : List OutFrame) × (next : State) × Step Scarce state f outs next × Stands g new t next × Given sink.before sink.after (out_frames outs)
+    × WentOn g s t state.kept.mark next.kept × ((image : List ℕ) → WhereTold (g.image t) (λ read. g.may_leave t image → ReadsAsPrefix next.kept next.kept.mark image))
 
 -- In each state that the world stands for the frame has a step; the sink was given a prefix of the frames that answer it,
--- and not all of them.
-abbrev pub SteppedPart : WorldView → InFrame → Option (List ℕ) → Option (List ℕ) → Type 0
-SteppedPart old f before after =
-    (state : State) → Stands old state
-    → (outs : List OutFrame) × (next : State) × Step Scarce state f outs next × GivenPart before after (out_frames outs)
+-- and not all of them. A crash at any moment leaves a prefix of the history that holds the mark from before.
+abbrev pub SteppedPart : {S : Type 0} → Ghosts S → WorldView → S → InFrame → S → SinkGot → Type 0
+SteppedPart g old s f t sink =
+    (state : State) → Stands g old s state
+    → (outs : List OutFrame) × (next : State) × Step Scarce state f outs next × GivenPart sink.before sink.after (out_frames outs)
+    × LeavesPrefix g s t state.kept.mark next.kept
+
+-- A call of the disk failed in a record of a session. In each state that the world stands for the frame, cut behind this record, has
+-- a step; the sink was given all of the answers but the one to this record. A crash at any moment leaves a prefix of the history
+-- that holds the mark from before.
+abbrev pub SteppedDown : {S : Type 0} → Ghosts S → WorldView → S → InFrame → S → SinkGot → Type 0
+SteppedDown g old s (Bytes number payload) t sink =
+    (state : State) → Stands g old s state
+    → (cut : ℕ) × (outs : List OutFrame) × (last : OutFrame) × (next : State) × Step Scarce state (Bytes number (take cut payload)) (outs ++ last ∷ []) next
+    × Given sink.before sink.after (out_frames outs) × LeavesPrefix g s t state.kept.mark next.kept
+SteppedDown g old s _ t sink = ⊥
 
 -- the frame begins a session that has not begun before
 abbrev pub BeginsFirst : WorldView → InFrame → Type 0

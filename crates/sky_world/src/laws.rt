@@ -1,12 +1,14 @@
 //! What is true of every recorded session: functions with nothing to do, whose clauses are the laws.
 
-ghost use Rattle.std.specs.Prelude.{◌≡◌, ℕ, List, ◌++◌};
+ghost use Rattle.std.specs.Prelude.{◌≡◌, ◌≤◌, ℕ, List, ◌++◌};
 ghost use Rattle.std.specs.List.{AllByRecursion};
+ghost use Rattle.sky_journal.specs.Journal.{JournalView};
 ghost use Rattle.sky_nfs.specs.History.{IsLegalHistory};
+ghost use Rattle.sky_base.specs.Limits.{max_volume};
 ghost use Rattle.sky_base.specs.declared.moment.Moment.{Moment};
-ghost use Rattle.sky_script.specs.Frame.{InFrame, Begin, Bytes, Close, SetMoment, OutFrame};
+ghost use Rattle.sky_script.specs.Frame.{InFrame, Begin, Bytes, Close, SetMoment, Stat, OutFrame};
 ghost use Rattle.sky_world.specs.Bytes.{AreBytes, HasByteStreams, CarriesBytes};
-ghost use Rattle.sky_world.specs.Laws.{GoesOnFrom, NoneOutOfMemory};
+ghost use Rattle.sky_world.specs.Laws.{GoesOnFrom, IsMarked, NoneOutOfMemory};
 ghost use Rattle.sky_world.specs.Meaning.{State, Memory, Ample, Scarce, start, Step, Steps, IsStep};
 
 /// Each frame but the end has a step in each state, and only one where there is memory for every call: the answers and the
@@ -22,15 +24,15 @@ pub fn each_frame_has_one_step()
         → Step Scarce old frame outs new → NoneOutOfMemory outs → Step Ample old frame outs new }
 {}
 
-/// From the start on frames have steps, whichever they are, and one way of them where there is memory for every call. Two
+/// From the start over a journal on frames have steps, whichever they are, and one way of them where there is memory for every call. Two
 /// recordings of the same frames whose answers do not tell a want of memory have the same answers.
 pub fn each_recording_has_one_meaning()
-    ensures some { (memory : Memory) (frames : List InFrame) → AllByRecursion (λ frame. IsStep frame × CarriesBytes frame) frames
-        → (outs : List OutFrame) × (last : State) × Steps memory start frames outs last }
-    ensures one { (frames : List InFrame) (outs others : List OutFrame) (last other : State)
-        → Steps Ample start frames outs last → Steps Ample start frames others other → (outs ≡ others) × (last ≡ other) }
-    ensures told { (frames : List InFrame) (outs others : List OutFrame) (last other : State)
-        → Steps Scarce start frames outs last → NoneOutOfMemory outs → Steps Scarce start frames others other → NoneOutOfMemory others
+    ensures some { (journal : JournalView) (memory : Memory) (frames : List InFrame) → AllByRecursion (λ frame. IsStep frame × CarriesBytes frame) frames
+        → (outs : List OutFrame) × (last : State) × Steps memory (start journal) frames outs last }
+    ensures one { (journal : JournalView) (frames : List InFrame) (outs others : List OutFrame) (last other : State)
+        → Steps Ample (start journal) frames outs last → Steps Ample (start journal) frames others other → (outs ≡ others) × (last ≡ other) }
+    ensures told { (journal : JournalView) (frames : List InFrame) (outs others : List OutFrame) (last other : State)
+        → Steps Scarce (start journal) frames outs last → NoneOutOfMemory outs → Steps Scarce (start journal) frames others other → NoneOutOfMemory others
         → (outs ≡ others) × (last ≡ other) }
 {}
 
@@ -43,18 +45,27 @@ pub fn cuts_do_not_matter()
         → Step memory old (Bytes session (first ++ second)) (outs ++ further) new }
 {}
 
+/// The mark, up to which each crash leaves the changes, lies within the history, and does not fall.
+pub fn the_mark_does_not_fall()
+    ensures begins { (journal : JournalView) → IsMarked (start journal).kept }
+    ensures stays { (memory : Memory) (old new : State) (frame : InFrame) (outs : List OutFrame)
+        → Step memory old frame outs new → IsMarked old.kept → (old.kept.mark ≤ new.kept.mark) × IsMarked new.kept }
+{}
+
 /// There is one history: it is legal at the start and after each frame, each frame adds its changes behind those of the
 /// frames before it, whichever sessions they are of, and only a frame with a session's bytes adds any.
 pub fn there_is_one_history()
-    ensures begins { IsLegalHistory start.history }
+    ensures begins { (journal : JournalView) → journal.volume ≤ max_volume → IsLegalHistory (start journal).kept.history }
     ensures legal { (memory : Memory) (old new : State) (frame : InFrame) (outs : List OutFrame)
-        → Step memory old frame outs new → IsLegalHistory old.history → IsLegalHistory new.history }
+        → Step memory old frame outs new → IsLegalHistory old.kept.history → IsLegalHistory new.kept.history }
     ensures goes_on { (memory : Memory) (old new : State) (frame : InFrame) (outs : List OutFrame)
-        → Step memory old frame outs new → GoesOnFrom old.history new.history }
+        → Step memory old frame outs new → GoesOnFrom old.kept.history new.kept.history }
     ensures begin { (memory : Memory) (old new : State) (session : ℕ) (outs : List OutFrame)
-        → Step memory old (Begin session) outs new → new.history ≡ old.history }
+        → Step memory old (Begin session) outs new → new.kept ≡ old.kept }
     ensures close { (memory : Memory) (old new : State) (session : ℕ) (outs : List OutFrame)
-        → Step memory old (Close session) outs new → new.history ≡ old.history }
+        → Step memory old (Close session) outs new → new.kept ≡ old.kept }
     ensures moment { (memory : Memory) (old new : State) (at : Moment) (outs : List OutFrame)
-        → Step memory old (SetMoment at) outs new → new.history ≡ old.history }
+        → Step memory old (SetMoment at) outs new → new.kept ≡ old.kept }
+    ensures stat { (memory : Memory) (old new : State) (outs : List OutFrame)
+        → Step memory old Stat outs new → new.kept ≡ old.kept }
 {}

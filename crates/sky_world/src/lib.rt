@@ -4,6 +4,7 @@
 mod fault;
 mod laws;
 mod message;
+mod opening;
 mod reply;
 mod service;
 mod sessions;
@@ -11,7 +12,7 @@ mod world;
 
 pub use laws::{
     cuts_do_not_matter, each_frame_has_one_step, each_recording_has_one_meaning,
-    there_is_one_history,
+    the_mark_does_not_fall, there_is_one_history,
 };
 pub use world::World;
 

@@ -1,27 +1,30 @@
 //! The buffer in which replies are written.
 
-ghost use Rattle.std.specs.Prelude.{◌≡◌, ◌≤◌, ◌<◌, [], IfSome, IsErr, OnErr, OnOk, drop, length, take, vec_len};
+ghost use Rattle.std.specs.Prelude.{◌≡◌, ◌≤◌, ◌<◌, ◌^◌, [], IfOk, IfSome, IsErr, OnErr, OnOk, drop, length, take, vec_len};
 ghost use Rattle.std.specs.Option.{option_map};
 ghost use Rattle.sky_mount.specs.Mount as mount;
 ghost use Rattle.sky_mount.specs.Values.{call_of};
-ghost use Rattle.sky_nfs.specs.declared.status.NfsStatus.TheVariants.{ServerFault};
+ghost use Rattle.sky_nfs.specs.declared.status.NfsStatus.TheVariants.{ServerFault, Jukebox};
+ghost use Rattle.sky_entry.specs.Entry.{entry_bytes};
 ghost use Rattle.sky_outside.specs.Count.{Counts};
 ghost use Rattle.sky_outside.specs.Told.{Given, GivenPart};
 ghost use Rattle.sky_results.specs.Answers.{answer_bytes};
 ghost use Rattle.sky_rpc.specs.Reply.{Success, reply_record};
 ghost use Rattle.sky_rpc.specs.Values.{reply_of, results_count};
 ghost use Rattle.sky_script.specs.Frame.{Reply, out_frame};
-ghost use Rattle.sky_world.specs.Feeding.{Called, IsFormed, Serves, ServesMessage};
+ghost use Rattle.sky_world.specs.Carried.{IsServing};
+ghost use Rattle.sky_world.specs.Feeding.{Answers, AnswersCall, AnswersMessage, Fails, FailsCall, FailsMessage, IsFormed, IsSmall};
 ghost use Rattle.sky_world.specs.Message.{procedure_count};
-ghost use Rattle.sky_world.specs.Service.{bare_answer, reply_without_memory, volume};
+ghost use Rattle.sky_world.specs.Service.{bare_answer, reply_without_memory};
 
 use crate::fault::bare_answer;
 use crate::message::{Message, read_message};
-use crate::service::{Service, VOLUME};
-use sky_base::{Cred, NoMemory};
+use crate::service::Service;
+use sky_base::NoMemory;
+use sky_calls::Outcome;
 use sky_mount::{MountCall, write_mount};
-use sky_nfs::{Answer, Call, NfsStatus};
-use sky_outside::{Failed, Sink};
+use sky_nfs::{Answer, Change, NfsStatus};
+use sky_outside::{Disk, Failed, Sink};
 use sky_results::write_answer;
 use sky_rpc::{RESULTS_AT, ReplyBody, write_reply};
 use sky_script::{HEADER_ROOM, write_reply_frame};
@@ -32,22 +35,22 @@ const REPLY_LIMIT: usize = 131_072;
 
 /// Writes the results of a call of MOUNT at the beginning of a buffer, and says how many bytes they are.
 #[tactic(auto, using(crate::proofs::ReplyLaws::length_mounted))]
-fn write_mount_results(call: &MountCall<'_>, buf: &mut [u8]) -> usize
+fn write_mount_results(call: &MountCall<'_>, volume: u64, buf: &mut [u8]) -> usize
     requires { 36 ≤ length buf.old }
     ensures within { result ≤ 36 }
     ensures fits { result ≤ length buf.new }
     ensures written { take result buf.new ≡ mount.results volume (call_of call.now) }
 {
-    write_mount(buf, call, VOLUME).unwrap()
+    write_mount(buf, call, volume).unwrap()
 }
 
 /// Writes the record of the reply to a call of MOUNT, and says how many bytes it has.
-fn write_mounted(xid: u32, call: &MountCall<'_>, buf: &mut [u8]) -> usize
+fn write_mounted(xid: u32, call: &MountCall<'_>, volume: u64, buf: &mut [u8]) -> usize
     requires { 131072 ≤ length buf.old }
     ensures within { result ≤ 131072 }
     ensures written { take result buf.new ≡ reply_record xid (Success (mount.results volume (call_of call.now))) }
 {
-    let results = write_mount_results(call, &mut buf[RESULTS_AT..]);
+    let results = write_mount_results(call, volume, &mut buf[RESULTS_AT..]);
     write_reply(buf, xid, ReplyBody::Success { results }).unwrap()
 }
 
@@ -87,77 +90,133 @@ fn write_out_of_memory(xid: u32, procedure: u32, buf: &mut [u8]) -> usize
     write_success(xid, &answer, buf)
 }
 
-/// Answers a call of NFS, and writes the record of the reply. Says how many bytes it has.
-fn write_called(
-    service: &mut Service,
-    xid: u32,
-    procedure: u32,
-    cred: &Cred,
-    call: &Call,
-    buf: &mut [u8],
-) -> usize
+/// Writes the record of the reply to a call of this procedure that is put off, and says how many bytes it has.
+fn write_put_off(xid: u32, procedure: u32, buf: &mut [u8]) -> usize
     requires procedure { procedure < procedure_count }
     requires room { 131072 ≤ length buf.old }
     ensures within { result ≤ 131072 }
-    ensures called { Called service.old xid procedure cred.now call.now (take result buf.new) service.new }
+    ensures written { take result buf.new ≡ reply_record xid (Success (answer_bytes (bare_answer procedure Jukebox))) }
 {
-    match service.answer(cred, call) {
-        Ok(answer) => write_success(xid, &answer, buf),
-        Err(NoMemory) => write_out_of_memory(xid, procedure, buf),
+    let answer = bare_answer(procedure, NfsStatus::Jukebox);
+    write_success(xid, &answer, buf)
+}
+
+/// Answers a call of NFS, and writes the record of the reply. Says how many bytes it has.
+///
+/// `Failed` where a call of the disk failed; the service can answer no more calls then.
+fn write_called<D: Disk>(
+    service: &mut Service,
+    disk: &mut D,
+    xid: u32,
+    procedure: u32,
+    change: &Change,
+    buf: &mut [u8],
+) -> Result<usize, Failed>
+    requires procedure { procedure < procedure_count }
+    requires small { length (entry_bytes change.now) < 2 ^ 32 }
+    requires moment { change.now.moment ≡ service.old.moment }
+    requires room { 131072 ≤ length buf.old }
+    requires serving { IsServing D.Storage service.old disk.old }
+    ensures within { IfOk result (λ n. n ≤ 131072) }
+    ensures called { IfOk result (λ n. AnswersCall D.Storage service.old disk.old xid procedure change.now.cred change.now.call (take n buf.new) service.new disk.new) }
+    ensures serving { OnOk result (IsServing D.Storage service.new disk.new) }
+    ensures fails { OnErr result (FailsCall D.Storage service.old disk.old xid procedure change.now.cred change.now.call disk.new) }
+    ensures size { D.bytes_of disk.new ≡ D.bytes_of disk.old }
+    ensures cause { Counts (D.disk_faults disk.old) (D.disk_faults disk.new) (IsErr result) }
+{
+    match service.answer(disk, change) {
+        Outcome::Done(answer) => Ok(write_success(xid, &answer, buf)),
+        Outcome::Jukebox { .. } => Ok(write_put_off(xid, procedure, buf)),
+        Outcome::Memory => Ok(write_out_of_memory(xid, procedure, buf)),
+        Outcome::Down => Err(Failed),
     }
 }
 
 /// Writes the record of the reply to a message, if it has one, and says how many bytes it has. A call of NFS is answered.
-fn write_message(service: &mut Service, message: &Message<'_>, buf: &mut [u8]) -> Option<usize>
-    requires formed { IsFormed message.now }
+///
+/// `Failed` where a call of the disk failed.
+fn write_message<D: Disk>(
+    service: &mut Service,
+    disk: &mut D,
+    message: Message<'_>,
+    buf: &mut [u8],
+) -> Result<Option<usize>, Failed>
+    requires formed { IsFormed message }
+    requires small { IsSmall message }
     requires room { 131072 ≤ length buf.old }
-    ensures within { IfSome result (λ n. n ≤ 131072) }
-    ensures served { ServesMessage service.old message.now (option_map (λ n. take n buf.new) result) service.new }
+    requires serving { IsServing D.Storage service.old disk.old }
+    ensures within { IfOk result (λ wrote. IfSome wrote (λ n. n ≤ 131072)) }
+    ensures answered { IfOk result (λ wrote. AnswersMessage D.Storage service.old disk.old message.entry (option_map (λ n. take n buf.new) wrote) service.new disk.new) }
+    ensures serving { OnOk result (IsServing D.Storage service.new disk.new) }
+    ensures fails { OnErr result (FailsMessage D.Storage service.old disk.old message.entry disk.new) }
+    ensures size { D.bytes_of disk.new ≡ D.bytes_of disk.old }
+    ensures cause { Counts (D.disk_faults disk.old) (D.disk_faults disk.new) (IsErr result) }
 {
     match message {
-        Message::Close => None,
-        Message::Refused { xid, reply } => Some(write_refusal(*xid, *reply, buf)),
-        Message::Mount { xid, call } => Some(write_mounted(*xid, call, buf)),
+        Message::Close => Ok(None),
+        Message::Refused { xid, reply } => Ok(Some(write_refusal(xid, reply, buf))),
+        Message::Mount { xid, call } => Ok(Some(write_mounted(xid, &call, service.volume(), buf))),
         Message::Nfs {
             xid,
             procedure,
             cred,
             call,
-        } => Some(write_called(service, *xid, *procedure, cred, call, buf)),
+        } => {
+            let moment = service.moment();
+            let change = Change { cred, moment, call };
+            let count = write_called(service, disk, xid, procedure, &change, buf)?;
+            Ok(Some(count))
+        }
         Message::OutOfMemory { xid, procedure } => {
-            Some(write_out_of_memory(*xid, *procedure, buf))
+            Ok(Some(write_out_of_memory(xid, procedure, buf)))
         }
     }
 }
 
-/// Answers a record of a session: writes the record of the reply, if it has one, and says how many bytes it has.
-#[tactic(auto, using(crate::proofs::ServeLaws::serves_record))]
-fn write_reply_to(
+/// Answers a record of a session: writes the record of the reply, if it has one, and says how many bytes it has. The record has at most
+/// 131,072 bytes.
+///
+/// `Failed` where a call of the disk failed.
+fn write_reply_to<D: Disk>(
     alloc: Global,
     service: &mut Service,
+    disk: &mut D,
     text: &[u8],
     buf: &mut [u8],
-) -> Option<usize>
-    requires { 131072 ≤ length buf.old }
-    ensures within { IfSome result (λ n. n ≤ 131072) }
-    ensures served { Serves service.old text.now (option_map (λ n. take n buf.new) result) service.new }
+) -> Result<Option<usize>, Failed>
+    requires short { length text.now ≤ 131072 }
+    requires room { 131072 ≤ length buf.old }
+    requires serving { IsServing D.Storage service.old disk.old }
+    ensures within { IfOk result (λ wrote. IfSome wrote (λ n. n ≤ 131072)) }
+    ensures answered { IfOk result (λ wrote. Answers D.Storage service.old disk.old text.now (option_map (λ n. take n buf.new) wrote) service.new disk.new) }
+    ensures serving { OnOk result (IsServing D.Storage service.new disk.new) }
+    ensures fails { OnErr result (Fails D.Storage service.old disk.old text.now disk.new) }
+    ensures size { D.bytes_of disk.new ≡ D.bytes_of disk.old }
+    ensures cause { Counts (D.disk_faults disk.old) (D.disk_faults disk.new) (IsErr result) }
 {
     let message = read_message(alloc, text);
-    write_message(service, &message, buf)
+    write_message(service, disk, message, buf)
 }
 
 /// The same, with room for the header of a frame before the record.
-fn write_reply_behind(
+fn write_reply_behind<D: Disk>(
     alloc: Global,
     service: &mut Service,
+    disk: &mut D,
     text: &[u8],
     buf: &mut [u8],
-) -> Option<usize>
-    requires { 131081 ≤ length buf.old }
-    ensures within { IfSome result (λ n. n ≤ 131072) }
-    ensures served { Serves service.old text.now (option_map (λ n. take n (drop 9 buf.new)) result) service.new }
+) -> Result<Option<usize>, Failed>
+    requires short { length text.now ≤ 131072 }
+    requires room { 131081 ≤ length buf.old }
+    requires serving { IsServing D.Storage service.old disk.old }
+    ensures within { IfOk result (λ wrote. IfSome wrote (λ n. n ≤ 131072)) }
+    ensures answered { IfOk result (λ wrote. Answers D.Storage service.old disk.old text.now (option_map (λ n. take n (drop 9 buf.new)) wrote) service.new disk.new) }
+    ensures serving { OnOk result (IsServing D.Storage service.new disk.new) }
+    ensures fails { OnErr result (Fails D.Storage service.old disk.old text.now disk.new) }
+    ensures size { D.bytes_of disk.new ≡ D.bytes_of disk.old }
+    ensures cause { Counts (D.disk_faults disk.old) (D.disk_faults disk.new) (IsErr result) }
 {
-    write_reply_to(alloc, service, text, &mut buf[HEADER_ROOM..])
+    write_reply_to(alloc, service, disk, text, &mut buf[HEADER_ROOM..])
 }
 
 /// Gives a session a record that stands behind room for the header of its frame, in one piece with that header.
@@ -192,12 +251,30 @@ impl ReplyBuf {
         Ok(ReplyBuf { bytes })
     }
 
-    /// Answers a record of a session: writes the record of the reply, if it has one, and says how many bytes it has.
-    pub fn write(&mut self, alloc: Global, service: &mut Service, text: &[u8]) -> Option<usize>
-        ensures within { IfSome result (λ n. n ≤ 131072) }
-        ensures served { Serves service.old text.now (option_map (λ n. take n (drop 9 self.new.bytes.items)) result) service.new }
+    /// Answers a record of a session: writes the record of the reply, if it has one, and says how many bytes it has. The record has at
+    /// most 131,072 bytes.
+    ///
+    /// `Failed` where a call of the disk failed.
+    pub fn write<D: Disk>(
+        &mut self,
+        alloc: Global,
+        service: &mut Service,
+        disk: &mut D,
+        text: &[u8],
+    ) -> Result<Option<usize>, Failed>
+        requires short { length text.now ≤ 131072 }
+        requires serving { IsServing D.Storage service.old disk.old }
+        ensures within { IfOk result (λ wrote. IfSome wrote (λ n. n ≤ 131072)) }
+        ensures answered { IfOk result (λ wrote. Answers D.Storage service.old disk.old text.now (option_map (λ n. take n (drop 9 self.new.bytes.items)) wrote) service.new disk.new) }
+        ensures serving { OnOk result (IsServing D.Storage service.new disk.new) }
+        ensures fails { OnErr result (Fails D.Storage service.old disk.old text.now disk.new) }
+        ensures size { D.bytes_of disk.new ≡ D.bytes_of disk.old }
+        ensures cause { Counts (D.disk_faults disk.old) (D.disk_faults disk.new) (IsErr result) }
     {
-        write_reply_behind(alloc, service, text, &mut self.bytes)
+        match write_reply_behind(alloc, service, disk, text, &mut self.bytes) {
+            Ok(wrote) => Ok(wrote),
+            Err(Failed) => Err(Failed),
+        }
     }
 
     /// Gives a session the first bytes of the record that was written, in one piece with the header of their frame.

@@ -1,16 +1,18 @@
 //! What answers the calls of a session.
 
-ghost use Rattle.std.specs.Prelude.{◌≡◌, ◌≤◌, IfOk, OnErr, OnOk, IsTrue, length};
-ghost use Rattle.sky_nfs.specs.Procedure.{procedure};
-ghost use Rattle.sky_results.specs.Answers.{answer_bytes};
-ghost use Rattle.sky_tree.specs.Memory.{takes_memory};
-ghost use Rattle.sky_world.specs.Meaning.{service_of, start};
-ghost use Rattle.sky_world.specs.Service.{answer_to};
+ghost use Rattle.std.specs.Prelude.{◌≡◌, ◌<◌, ◌≤◌, ◌^◌, false, true, IsTrue, is_none, length};
+ghost use Rattle.sky_calls.specs.Durable.{is_down};
+ghost use Rattle.sky_entry.specs.Entry.{entry_bytes};
+ghost use Rattle.sky_nfs.specs.Calls.{is_change};
+ghost use Rattle.sky_outside.specs.Count.{Counts};
+ghost use Rattle.sky_journal.specs.Journal.{last_of, number_behind};
+ghost use Rattle.sky_nfs.specs.Tree.{epoch_start};
+ghost use Rattle.sky_world.specs.Carried.{Becomes, IsServing, has_committed};
 
-use sky_base::{Cred, Moment, NoMemory};
-use sky_nfs::{Answer, Call};
-use sky_tree::Tree;
-use std::alloc::Global;
+use sky_base::Moment;
+use sky_calls::{DurableTree, Outcome};
+use sky_nfs::{Answer, Change};
+use sky_outside::Disk;
 use std::marker::Model;
 
 /// The number of the first opening.
@@ -22,35 +24,46 @@ const FIRST_MOMENT: Moment = Moment {
     nanos: 0,
 };
 
-/// The number of the volume.
-pub const VOLUME: u64 = 1;
-
-/// What answers the calls of a session: the file tree, the number of this opening, and the moment of the calls.
+/// What answers the calls of a session: the file tree with its journal, the number of this opening, and the moment of the calls.
 #[derive(Drop)]
 pub struct Service {
     epoch: u64,
-    tree: Tree,
+    files: DurableTree,
     moment: Moment,
 }
 
 impl Model for Service {
-    ghost use Rattle.sky_world.specs.Service as spec;
+    ghost use Rattle.sky_world.specs.World.{ServiceView};
 
-    ghost Value = { spec.Service };
+    ghost Value = { ServiceView };
 
-    ghost view = { λ s. record { epoch = s.epoch; tree = s.tree; moment = s.moment } };
+    ghost view = { λ s. record { epoch = s.epoch; tree = s.files.tree; journal = s.files.journal; moment = s.moment } };
+}
+
+/// Whether an answer is that to a COMMIT which is OK.
+fn is_committed(answer: &Answer) -> bool
+    ensures { result ≡ has_committed answer.now }
+{
+    matches!(answer, Answer::Commit(Ok(_)))
 }
 
 impl Service {
-    /// What answers the calls at the first opening: the empty tree.
-    pub fn new(alloc: Global) -> Result<Service, NoMemory>
-        ensures { IfOk result (λ service. service ≡ service_of start) }
+    /// What answers the calls over these files, at this opening.
+    pub fn new(epoch: u64, files: DurableTree) -> Service
+        ensures { result ≡ record { epoch = epoch; tree = files.tree; journal = files.journal; moment = epoch_start } }
     {
-        Ok(Service {
-            epoch: FIRST_EPOCH,
-            tree: Tree::empty(alloc, VOLUME)?,
+        Service {
+            epoch,
+            files,
             moment: FIRST_MOMENT,
-        })
+        }
+    }
+
+    /// The moment of the calls that follow.
+    pub fn moment(&self) -> Moment
+        ensures { result ≡ self.now.moment }
+    {
+        self.moment
     }
 
     /// Sets the moment of the calls that follow.
@@ -60,16 +73,95 @@ impl Service {
         self.moment = at;
     }
 
-    /// Answers a call.
-    ///
-    /// `NoMemory` where there is no memory for it. All is as it was then.
-    pub fn answer(&mut self, cred: &Cred, call: &Call) -> Result<Answer, NoMemory>
-        ensures answer { IfOk result (λ answer. answer ≡ answer_to self.old cred.now call.now) }
-        ensures fits { IfOk result (λ answer. length (answer_bytes answer) ≤ 65779) }
-        ensures tree { OnOk result (self.new ≡ record self.old { tree = (procedure self.old.tree self.old.epoch cred.now call.now self.old.moment).tree }) }
-        ensures err { OnErr result (self.new ≡ self.old) }
-        ensures memory { OnErr result (IsTrue (takes_memory self.old.tree cred.now call.now)) }
+    /// The number of the volume.
+    pub fn volume(&self) -> u64
+        ensures { result ≡ self.now.tree.volume }
     {
-        self.tree.apply(self.epoch, cred, call, self.moment)
+        self.files.tree().volume()
+    }
+
+    /// The number of this opening.
+    pub fn epoch(&self) -> u64
+        ensures { result ≡ self.now.epoch }
+    {
+        self.epoch
+    }
+
+    /// The number of the last change that is on the journal's disk.
+    pub fn mark(&self) -> u64
+        ensures { result ≡ number_behind self.now.journal.newer 0 }
+    {
+        self.files.journal().stored()
+    }
+
+    /// The number of the last change, of those too that are not on the disk yet.
+    pub fn last(&self) -> u64
+        ensures { result ≡ last_of self.now.journal }
+    {
+        self.files.journal().last()
+    }
+}
+
+impl Service {
+    /// Answers a call that changes the files.
+    fn change<D: Disk>(&mut self, disk: &mut D, change: &Change) -> Outcome
+        requires changes { IsTrue (is_change change.now.call) }
+        requires small { length (entry_bytes change.now) < 2 ^ 32 }
+        requires serving { IsServing D.Storage self.old disk.old }
+        ensures becomes { Becomes D.Storage self.old disk.old change.now result self.new disk.new }
+        ensures size { D.bytes_of disk.new ≡ D.bytes_of disk.old }
+        ensures down { self.new.journal.down ≡ is_down result }
+        ensures cause { Counts (D.disk_faults disk.old) (D.disk_faults disk.new) (IsTrue (is_down result)) }
+    {
+        self.files.facts();
+        let outcome = self.files.change(disk, self.epoch, change);
+        self.files.facts();
+        outcome
+    }
+
+    /// Answers a call that changes no file; a COMMIT brings all changes that are pending to the disk.
+    fn look<D: Disk>(&mut self, disk: &mut D, change: &Change) -> Outcome
+        requires reads { is_change change.now.call ≡ false }
+        requires serving { IsServing D.Storage self.old disk.old }
+        ensures becomes { Becomes D.Storage self.old disk.old change.now result self.new disk.new }
+        ensures size { D.bytes_of disk.new ≡ D.bytes_of disk.old }
+        ensures down { self.new.journal.down ≡ is_down result }
+        ensures cause { Counts (D.disk_faults disk.old) (D.disk_faults disk.new) (IsTrue (is_down result)) }
+    {
+        self.files.facts();
+        let Ok(answer) = self
+            .files
+            .answer(self.epoch, &change.cred, &change.call, change.moment)
+        else {
+            return Outcome::Memory;
+        };
+        if !is_committed(&answer) {
+            return Outcome::Done(answer);
+        }
+        if self.files.commit(disk).is_err() {
+            return Outcome::Down;
+        }
+        self.files.facts();
+        Outcome::Done(answer)
+    }
+
+    /// Answers a call of NFS. A change that is answered OK is in the journal, and on its disk unless it is a WRITE whose data may wait; a
+    /// COMMIT that is answered OK brings all that is pending to the disk.
+    ///
+    /// `Jukebox` exactly where the answer would be OK and the journal has no room, `Down` where a call of the disk failed, `Memory`
+    /// where there is no memory for it. After `Jukebox` and `Memory` all is as it was.
+    pub fn answer<D: Disk>(&mut self, disk: &mut D, change: &Change) -> Outcome
+        requires small { length (entry_bytes change.now) < 2 ^ 32 }
+        requires serving { IsServing D.Storage self.old disk.old }
+        ensures becomes { Becomes D.Storage self.old disk.old change.now result self.new disk.new }
+        ensures size { D.bytes_of disk.new ≡ D.bytes_of disk.old }
+        ensures down { self.new.journal.down ≡ is_down result }
+        ensures cause { Counts (D.disk_faults disk.old) (D.disk_faults disk.new) (IsTrue (is_down result)) }
+    {
+        if change.call.changes() {
+            self.change(disk, change)
+        } else {
+            self.look(disk, change)
+        }
     }
 }

@@ -1,11 +1,16 @@
+ghost use Rattle.std.specs.Prelude.{IfOk, OnOk};
+ghost use Rattle.sky_world.specs.Carried.{IsServing};
+ghost use Rattle.sky_outside.specs.Moments.{NothingPending};
 ghost use Rattle.sky_script.specs.Frame.{IsInFrame};
 ghost use Rattle.sky_script.specs.Values.{frame_of};
 ghost use Rattle.sky_world.specs.Meaning.{IsStep};
 
 use super::*;
 use sky_base::{Moment, Status};
-use sky_memory::MemSink;
+use sky_memory::{MemSink, SureSite};
+use sky_outside::{Site, Storage};
 use sky_script::{Frame, PAYLOAD_LIMIT, SESSION_COUNT};
+use sky_settings::{Fields, Settings};
 use std::alloc::Global;
 use std::test::Fail;
 
@@ -17,6 +22,8 @@ enum Event {
     Close,
     /// The moment is now this many seconds and nanoseconds, in each session.
     SetMoment(u32, u32),
+    /// The numbers of what the proxy has are asked for.
+    Stat,
 }
 
 /// What happens, to which session; and the frames that answer it, each with its kind, its session and its payload.
@@ -97,7 +104,18 @@ const REMOVE: &[u8] = b"\x80\0\0D\0\0\0\x04\0\0\0\0\0\0\0\x02\0\x01\x86\xa3\0\0\
     \0\0\0\x10\0\0\0\0\0\0\0\x01\0\0\0\0\0\0\0\x01\
     \0\0\0\x01a\0\0\0";
 
-static CASES: [Case; 8] = [
+/// The numbers of what the proxy has, which is nothing: the epoch is 1.
+const NOTHING: &[u8] = b"\0\0\0\0\0\0\0\0\0\0\0\0\0\0\0\0\0\0\0\0\0\0\0\x01\0\0\0\0\0\0\0\0\
+    \0\0\0\0\0\0\0\0\0\0\0\0\0\0\0\0\0\0\0\0\0\0\0\0\0\0\0\0\0\0\0\0";
+
+const NO_SESSION: &[(u8, u32, &[u8])] = &[(16, 0, NOTHING), (16, 0, NOTHING)];
+
+static CASES: [Case; 9] = [
+    // The numbers are told, whether or not a session has begun.
+    (
+        &[(0, Event::Stat), (0, Event::Begin), (0, Event::Stat)],
+        NO_SESSION,
+    ),
     // Two sessions, in turns; the record of session 0 ends first.
     (
         &[
@@ -238,6 +256,7 @@ static CASES: [Case; 8] = [
             (5, Event::Bytes(MKDIR)),
             (5, Event::Bytes(REMOVE)),
             (4, Event::Bytes(GETATTR)),
+            (0, Event::Stat),
         ],
         &[
             // The handle, the attributes of the file, and the root before and after.
@@ -287,54 +306,140 @@ static CASES: [Case; 8] = [
                 4,
                 b"\x80\0\0\x1c\0\0\0\x02\0\0\0\x01\0\0\0\0\0\0\0\0\0\0\0\0\0\0\0\0\0\0\0\x46",
             ),
+            // Two changes, both of them stable.
+            (
+                16,
+                0,
+                b"\0\0\0\0\0\0\0\x02\0\0\0\0\0\0\0\x02\0\0\0\0\0\0\0\x01\0\0\0\0\0\0\0\0\
+                    \0\0\0\0\0\0\0\0\0\0\0\0\0\0\0\0\0\0\0\0\0\0\0\0\0\0\0\0\0\0\0\0",
+            ),
         ],
     ),
 ];
 
+/// The settings with journal areas of 2^18 bytes.
+fn settings() -> Result<Settings, Fail> {
+    let small = Fields {
+        journal_area: 1 << 18,
+        ..Settings::new().fields()
+    };
+    match Settings::of(small) {
+        Some(settings) => Ok(settings),
+        None => Err("settings".into()),
+    }
+}
+
+/// Opens a site.
+fn opened<S: Site>(alloc: Global, site: &mut S, sink: &mut MemSink) -> Result<World, Fail>
+    requires { NothingPending S.Storage site.old }
+    ensures { IfOk result (λ world. IsServing S.Storage world.service site.new) }
+{
+    match World::start(alloc, site, sink, settings()?) {
+        Ok(world) => Ok(world),
+        Err(_) => Err("no world".into()),
+    }
+}
+
+/// A blank site of two areas of 2^18 bytes.
+fn blank(alloc: Global) -> Result<SureSite, Fail>
+    ensures { IfOk result (λ site. NothingPending ⟦<SureSite as Storage>⟧ site) }
+{
+    match SureSite::new(alloc, 1 << 19) {
+        Ok(site) => Ok(site),
+        Err(_) => Err("no memory".into()),
+    }
+}
+
 /// Does a frame.
-fn step(alloc: Global, world: &mut World, frame: &Frame<'_>, sink: &mut MemSink) -> Result<(), Fail>
+fn step<S: Site>(
+    alloc: Global,
+    world: &mut World,
+    site: &mut S,
+    frame: &Frame<'_>,
+    sink: &mut MemSink,
+) -> Result<(), Fail>
     requires formed { IsInFrame (frame_of frame.now) }
     requires step { IsStep (frame_of frame.now) }
+    requires serving { IsServing S.Storage world.old.service site.old }
+    ensures { OnOk result (IsServing S.Storage world.new.service site.new) }
 {
     if world.ended() {
         return Err("ended".into());
     }
-    world.step(alloc, frame, sink).map_err(|_| "no step")?;
-    Ok(())
+    match world.step(alloc, frame, site, sink) {
+        Ok(()) => Ok(()),
+        Err(_) => Err("no step".into()),
+    }
 }
 
 /// Lets something happen to a session.
-fn happen(
+fn happen<S: Site>(
     alloc: Global,
     world: &mut World,
+    site: &mut S,
     session: u32,
     event: Event,
     sink: &mut MemSink,
-) -> Result<(), Fail> {
+) -> Result<(), Fail>
+    requires { IsServing S.Storage world.old.service site.old }
+    ensures { OnOk result (IsServing S.Storage world.new.service site.new) }
+{
     if session >= SESSION_COUNT {
         return Err("no such session".into());
     }
     match event {
-        Event::Begin => step(alloc, world, &Frame::Begin { session }, sink),
+        Event::Begin => step(alloc, world, site, &Frame::Begin { session }, sink),
         Event::Bytes(payload) => {
             if payload.len() > PAYLOAD_LIMIT as usize {
                 return Err("too much".into());
             }
-            step(alloc, world, &Frame::Bytes { session, payload }, sink)
+            let frame = Frame::Bytes { session, payload };
+            step(alloc, world, site, &frame, sink)
         }
-        Event::Close => step(alloc, world, &Frame::Close { session }, sink),
+        Event::Close => step(alloc, world, site, &Frame::Close { session }, sink),
+        Event::Stat => step(alloc, world, site, &Frame::Stat, sink),
         Event::SetMoment(seconds, nanos) => {
             if nanos >= 1_000_000_000 {
                 return Err("no such moment".into());
             }
-            step(
-                alloc,
-                world,
-                &Frame::SetMoment(Moment { seconds, nanos }),
-                sink,
-            )
+            let now = Moment { seconds, nanos };
+            step(alloc, world, site, &Frame::SetMoment(now), sink)
         }
     }
+}
+
+/// Lets one thing after the other happen.
+fn happen_all<S: Site>(
+    alloc: Global,
+    world: &mut World,
+    site: &mut S,
+    events: &[(u32, Event)],
+    sink: &mut MemSink,
+) -> Result<(), Fail>
+    requires { IsServing S.Storage world.old.service site.old }
+    ensures { OnOk result (IsServing S.Storage world.new.service site.new) }
+{
+    for (session, event) in events {
+        happen(alloc, world, site, *session, *event, sink)?;
+    }
+    Ok(())
+}
+
+/// Gives two sessions these bytes one at a time, in turns.
+fn bytes_in_turns<S: Site>(
+    alloc: Global,
+    world: &mut World,
+    site: &mut S,
+    bytes: &'static [u8],
+    sink: &mut MemSink,
+) -> Result<(), Fail>
+    requires { IsServing S.Storage world.old.service site.old }
+{
+    for byte in bytes.chunks(1) {
+        happen(alloc, world, site, 0, Event::Bytes(byte), sink)?;
+        happen(alloc, world, site, 1, Event::Bytes(byte), sink)?;
+    }
+    Ok(())
 }
 
 /// The bytes of the opening and of these frames.
@@ -355,10 +460,9 @@ fn sessions(rt: HostRuntime) -> Result<(), Fail> {
     let alloc = rt.alloc();
     for (events, answers) in &CASES {
         let mut sink = MemSink::new(alloc, 4096, Vec::new(alloc)).map_err(|_| "no memory")?;
-        let mut world = World::start(alloc, &mut sink).map_err(|_| "no world")?;
-        for (session, event) in *events {
-            happen(alloc, &mut world, *session, *event, &mut sink)?;
-        }
+        let mut site = blank(alloc)?;
+        let mut world = opened(alloc, &mut site, &mut sink)?;
+        happen_all(alloc, &mut world, &mut site, events, &mut sink)?;
         let want = encoded(alloc, answers)?;
         assert_eq!(rt; sink.bytes(), want.as_slice());
         assert!(rt; !world.ended());
@@ -370,19 +474,15 @@ fn sessions(rt: HostRuntime) -> Result<(), Fail> {
 fn records_cut_anywhere(rt: HostRuntime) -> Result<(), Fail> {
     let alloc = rt.alloc();
     let mut sink = MemSink::new(alloc, 4096, Vec::new(alloc)).map_err(|_| "no memory")?;
-    let mut world = World::start(alloc, &mut sink).map_err(|_| "no world")?;
-    let now = Moment {
-        seconds: 1,
-        nanos: 999_999_999,
-    };
-    step(alloc, &mut world, &Frame::SetMoment(now), &mut sink)?;
-    for session in [0, 1] {
-        happen(alloc, &mut world, session, Event::Begin, &mut sink)?;
-    }
-    for byte in NULL.chunks(1) {
-        happen(alloc, &mut world, 0, Event::Bytes(byte), &mut sink)?;
-        happen(alloc, &mut world, 1, Event::Bytes(byte), &mut sink)?;
-    }
+    let mut site = blank(alloc)?;
+    let mut world = opened(alloc, &mut site, &mut sink)?;
+    let events = [
+        (0, Event::SetMoment(1, 999_999_999)),
+        (0, Event::Begin),
+        (1, Event::Begin),
+    ];
+    happen_all(alloc, &mut world, &mut site, &events, &mut sink)?;
+    bytes_in_turns(alloc, &mut world, &mut site, NULL, &mut sink)?;
     let want = encoded(alloc, &[(2, 0, DONE), (2, 1, DONE)])?;
     assert_eq!(rt; sink.bytes(), want.as_slice());
     Ok(())
@@ -394,15 +494,18 @@ fn a_write_that_fails_ends_the_world(rt: HostRuntime) -> Result<(), Fail> {
     // The opening is two writes, and a reply is one.
     let fail = Vec::from_slice(alloc, &[3])?;
     let mut sink = MemSink::new(alloc, 4096, fail).map_err(|_| "no memory")?;
-    let mut world = World::start(alloc, &mut sink).map_err(|_| "no world")?;
-    happen(alloc, &mut world, 0, Event::Begin, &mut sink)?;
-    assert!(rt; !world.ended());
+    let mut site = blank(alloc)?;
+    let mut world = opened(alloc, &mut site, &mut sink)?;
+    happen(alloc, &mut world, &mut site, 0, Event::Begin, &mut sink)?;
+    if world.ended() {
+        return Err("ended".into());
+    }
     let frame = Frame::Bytes {
         session: 0,
         payload: TWO,
     };
     assert_eq!(rt;
-        world.step(alloc, &frame, &mut sink),
+        world.step(alloc, &frame, &mut site, &mut sink),
         Err(Status::SinkFault)
     );
     assert!(rt; world.ended());

@@ -1,120 +1,175 @@
 //! What the proxy is in between two frames, and what a frame does to it.
 
-ghost use Rattle.std.specs.Prelude.{◌≡◌, ◌<◌, ◌≤◌, ◌⊎◌, ℕ, Bool, true, false, List, [], ◌++◌, Option, length, take, IfOk, IfErr, OnOk, OnErr, IsErr, IsErrOf, is_err, is_some, slice_index_or, slice_set};
+ghost use Rattle.std.specs.Prelude.{◌≡◌, ◌<◌, ◌≤◌, ◌^◌, ◌⊎◌, ℕ, Bool, true, false, List, [], Option, length, take, IfOk, IfErr, OnOk, OnErr, IsErr, IsErrOf, is_err, is_some, slice_index_or, slice_set};
+ghost use Rattle.sky_nfs.specs.Tree.{empty_tree};
 ghost use Rattle.sky_outside.specs.Count.{Counts};
-ghost use Rattle.sky_outside.specs.Told.{Given, GivenPart};
+ghost use Rattle.sky_outside.specs.Moments.{NothingPending, SameCloud};
+ghost use Rattle.sky_outside.specs.Told.{BothTold, Given, GivenPart, WhereTold};
 ghost use Rattle.sky_record.specs.Stream.{Received, IsOpen, nothing};
 ghost use Rattle.sky_script.specs.Frame as frames;
 ghost use Rattle.sky_script.specs.Frame.{IsInFrame, out_frame, out_frames, session_count};
 ghost use Rattle.sky_script.specs.Values.{frame_of};
-ghost use Rattle.sky_world.specs.Feeding.{Serves, Feeds, Handled, HandledPart};
-ghost use Rattle.sky_world.specs.Meaning.{start as opened, opening, frame_for, IsStep};
-ghost use Rattle.sky_world.specs.Service as spec;
+ghost use Rattle.sky_world.specs.Carried.{IsServing};
+ghost use Rattle.sky_world.specs.Feeding.{Answers, Fails, Feeds, FeedFails, Handled, HandledPart, HandledDown};
+ghost use Rattle.sky_world.specs.Meaning.{start as opened, begun_journal, opening, frame_for, IsStep};
+ghost use Rattle.sky_world.specs.Opening.{IsForeign, IsOfOpening, LeavesBlank, opened_world};
 ghost use Rattle.sky_world.specs.Sessions.{IsReady, closed};
-ghost use Rattle.sky_world.specs.World.{Stands, Stepped, SteppedPart, BeginsFirst, opened_world};
+ghost use Rattle.sky_world.specs.declared.sessions.Session.{Session};
+ghost use Rattle.sky_world.specs.World.{ServiceView, Stands, Stepped, SteppedPart, SteppedDown, BeginsFirst, stats_shown};
 
+use crate::opening::open_journal;
 use crate::reply::ReplyBuf;
 use crate::service::{FIRST_EPOCH, Service};
 use crate::sessions::{Session, Sessions};
 use sky_base::{Moment, NoMemory, Status};
-use sky_outside::{Failed, Sink};
+use sky_calls::DurableTree;
+use sky_journal::Journal;
+use sky_outside::{Disk, Failed, Sink, Site};
 use sky_record::{Assembler, Fed};
-use sky_script::{Frame, OutFrame, write_out_frame};
+use sky_script::{Frame, OutFrame, Stats, write_out_frame};
+use sky_settings::Settings;
+use sky_tree::Tree;
 use std::alloc::Global;
 use std::marker::Model;
 
 /// Answers a record of a session: gives the reply to it, or closes the session. Says whether the session stays open.
-fn answer_record<K: Sink>(
+///
+/// `JournalFault` where a call of the disk failed; nothing was written then. `SinkFault` where a write failed.
+fn answer_record<D: Disk, K: Sink>(
     alloc: Global,
     service: &mut Service,
     buf: &mut ReplyBuf,
     session: u32,
     text: &[u8],
+    disk: &mut D,
     sink: &mut K,
-) -> Result<bool, Failed>
-    ensures ok { IfOk result (λ stays. (reply : Option (List ℕ)) × Serves service.old text.now reply service.new × (stays ≡ is_some reply)
+) -> Result<bool, Status>
+    requires short { length text.now ≤ 131072 }
+    requires serving { IsServing D.Storage service.old disk.old }
+    ensures ok { IfOk result (λ stays. (reply : Option (List ℕ)) × Answers D.Storage service.old disk.old text.now reply service.new disk.new × (stays ≡ is_some reply)
         × Given (K.written sink.old) (K.written sink.new) (out_frame (frame_for session reply))) }
-    ensures partly { OnErr result ((reply : Option (List ℕ)) × (after : spec.Service) × Serves service.old text.now reply after
-        × GivenPart (K.written sink.old) (K.written sink.new) (out_frame (frame_for session reply))) }
-    ensures cause { Counts (K.faults sink.old) (K.faults sink.new) (IsErr result) }
+    ensures serving { OnOk result (IsServing D.Storage service.new disk.new) }
+    ensures partly { IsErrOf result Status.SinkFault → (reply : Option (List ℕ)) × (after : ServiceView) × Answers D.Storage service.old disk.old text.now reply after disk.new
+        × GivenPart (K.written sink.old) (K.written sink.new) (out_frame (frame_for session reply)) }
+    ensures fails { IsErrOf result Status.JournalFault → Fails D.Storage service.old disk.old text.now disk.new }
+    ensures unwritten { IsErrOf result Status.JournalFault → sink.new ≡ sink.old }
+    ensures statuses { IfErr result (λ status. (status ≡ Status.JournalFault) ⊎ (status ≡ Status.SinkFault)) }
+    ensures size { D.bytes_of disk.new ≡ D.bytes_of disk.old }
+    ensures disk_cause { Counts (D.disk_faults disk.old) (D.disk_faults disk.new) (IsErrOf result Status.JournalFault) }
+    ensures cause { Counts (K.faults sink.old) (K.faults sink.new) (IsErrOf result Status.SinkFault) }
 {
-    match buf.write(alloc, service, text) {
-        Some(count) => {
-            buf.give(session, count, sink)?;
-            Ok(true)
-        }
-        None => {
-            write_out_frame(sink, &OutFrame::Closed { session })?;
-            Ok(false)
-        }
+    match buf.write(alloc, service, disk, text) {
+        Err(Failed) => Err(Status::JournalFault),
+        Ok(Some(count)) => match buf.give(session, count, sink) {
+            Ok(()) => Ok(true),
+            Err(Failed) => Err(Status::SinkFault),
+        },
+        Ok(None) => match write_out_frame(sink, &OutFrame::Closed { session }) {
+            Ok(()) => Ok(false),
+            Err(Failed) => Err(Status::SinkFault),
+        },
     }
 }
 
 /// Takes bytes from the prefix of a piece, up to the end of the record under way, and answers that record if it ended.
 /// Says how many bytes it took, and whether the session stays open.
-fn feed_once<K: Sink>(
+fn feed_once<D: Disk, K: Sink>(
     alloc: Global,
     service: &mut Service,
     buf: &mut ReplyBuf,
     session: u32,
     assembler: &mut Assembler,
     piece: &[u8],
+    disk: &mut D,
     sink: &mut K,
-) -> Result<(usize, bool), Failed>
+) -> Result<(usize, bool), Status>
     requires ready { IsOpen assembler.old.progress }
+    requires serving { IsServing D.Storage service.old disk.old }
     ensures taken { IfOk result (λ r. r.0 ≤ length piece.now) }
     ensures some { IfOk result (λ r. 0 < length piece.now → 0 < r.0) }
     ensures ready { IfOk result (λ r. r.1 ≡ true → IsOpen assembler.new.progress) }
+    ensures serving { OnOk result (IsServing D.Storage service.new disk.new) }
     ensures ok { IfOk result (λ r. (outs : List frames.OutFrame)
-        × Feeds session service.old assembler.old (take r.0 piece.now) outs r.1 service.new assembler.new
+        × Feeds D.Storage session service.old disk.old assembler.old (take r.0 piece.now) outs r.1 service.new disk.new assembler.new
         × Given (K.written sink.old) (K.written sink.new) (out_frames outs)) }
-    ensures partly { OnErr result ((count : ℕ) × (after : spec.Service) × (new : Received) × (outs : List frames.OutFrame) × (stays : Bool)
-        × Feeds session service.old assembler.old (take count piece.now) outs stays after new
-        × GivenPart (K.written sink.old) (K.written sink.new) (out_frames outs)) }
-    ensures cause { Counts (K.faults sink.old) (K.faults sink.new) (IsErr result) }
+    ensures partly { IsErrOf result Status.SinkFault → (count : ℕ) × (after : ServiceView) × (new : Received) × (outs : List frames.OutFrame) × (stays : Bool)
+        × Feeds D.Storage session service.old disk.old assembler.old (take count piece.now) outs stays after disk.new new
+        × GivenPart (K.written sink.old) (K.written sink.new) (out_frames outs) }
+    ensures fails { IsErrOf result Status.JournalFault → (count : ℕ) × FeedFails D.Storage service.old disk.old assembler.old (take count piece.now) disk.new }
+    ensures unwritten { IsErrOf result Status.JournalFault → sink.new ≡ sink.old }
+    ensures statuses { IfErr result (λ status. (status ≡ Status.JournalFault) ⊎ (status ≡ Status.SinkFault)) }
+    ensures size { D.bytes_of disk.new ≡ D.bytes_of disk.old }
+    ensures disk_cause { Counts (D.disk_faults disk.old) (D.disk_faults disk.new) (IsErrOf result Status.JournalFault) }
+    ensures cause { Counts (K.faults sink.old) (K.faults sink.new) (IsErrOf result Status.SinkFault) }
 {
     let (taken, fed) = assembler.feed(piece);
     match fed {
         Fed::More => Ok((taken, true)),
         Fed::Message => {
-            let stays = answer_record(alloc, service, buf, session, assembler.message(), sink)?;
-            assembler.clear();
-            Ok((taken, stays))
+            let text = assembler.message();
+            match answer_record(alloc, service, buf, session, text, disk, sink) {
+                Ok(stays) => {
+                    assembler.clear();
+                    Ok((taken, stays))
+                }
+                Err(status) => Err(status),
+            }
         }
-        Fed::TooLong => {
-            write_out_frame(sink, &OutFrame::Closed { session })?;
-            Ok((taken, false))
-        }
+        Fed::TooLong => match write_out_frame(sink, &OutFrame::Closed { session }) {
+            Ok(()) => Ok((taken, false)),
+            Err(Failed) => Err(Status::SinkFault),
+        },
     }
 }
 
 /// Handles the payload of a frame on an open session: each record that ends in it is answered, and only then the next is looked at.
 /// Behind the record at which the session is closed nothing is looked at. Answers what the session then is.
-fn feed_payload<K: Sink>(
+fn feed_payload<D: Disk, K: Sink>(
     alloc: Global,
     service: &mut Service,
     buf: &mut ReplyBuf,
     session: u32,
     mut assembler: Assembler,
     payload: &[u8],
+    disk: &mut D,
     sink: &mut K,
-) -> Result<Session, Failed>
+) -> Result<Session, Status>
     requires ready { IsOpen assembler.progress }
+    requires serving { IsServing D.Storage service.old disk.old }
     ensures ready { IfOk result IsReady }
-    ensures ok { IfOk result (λ next. Handled session service.old assembler payload.now service.new next
-        (K.written sink.old) (K.written sink.new)) }
-    ensures partly { OnErr result (HandledPart session service.old assembler payload.now
-        (K.written sink.old) (K.written sink.new)) }
-    ensures cause { Counts (K.faults sink.old) (K.faults sink.new) (IsErr result) }
+    ensures serving { OnOk result (IsServing D.Storage service.new disk.new) }
+    ensures ok { IfOk result (λ next. Handled D.Storage session service.old disk.old assembler payload.now service.new disk.new next
+        (record { before = K.written sink.old; after = K.written sink.new })) }
+    ensures partly { IsErrOf result Status.SinkFault → HandledPart D.Storage session service.old disk.old assembler payload.now disk.new
+        (record { before = K.written sink.old; after = K.written sink.new }) }
+    ensures fails { IsErrOf result Status.JournalFault → HandledDown D.Storage session service.old disk.old assembler payload.now disk.new
+        (record { before = K.written sink.old; after = K.written sink.new }) }
+    ensures statuses { IfErr result (λ status. (status ≡ Status.JournalFault) ⊎ (status ≡ Status.SinkFault)) }
+    ensures size { D.bytes_of disk.new ≡ D.bytes_of disk.old }
+    ensures disk_cause { Counts (D.disk_faults disk.old) (D.disk_faults disk.new) (IsErrOf result Status.JournalFault) }
+    ensures cause { Counts (K.faults sink.old) (K.faults sink.new) (IsErrOf result Status.SinkFault) }
 {
     let mut taken = 0;
     while taken < payload.len() {
         let piece = &payload[taken..];
-        let (count, stays) = feed_once(alloc, service, buf, session, &mut assembler, piece, sink)?;
-        if !stays {
-            return Ok(Session::Closed(assembler));
+        match feed_once(
+            alloc,
+            service,
+            buf,
+            session,
+            &mut assembler,
+            piece,
+            disk,
+            sink,
+        ) {
+            Ok((count, stays)) => {
+                if !stays {
+                    return Ok(Session::Closed(assembler));
+                }
+                taken += count;
+            }
+            Err(status) => return Err(status),
         }
-        taken += count;
     }
     Ok(Session::Open(assembler))
 }
@@ -139,34 +194,65 @@ impl Model for World {
     ghost view = { λ w. record { service = w.service; sessions = w.sessions; ended = w.ended } };
 }
 
-impl World {
-    /// The world of the first opening.
-    fn new(alloc: Global) -> Result<World, NoMemory>
-        ensures { IfOk result (λ world. world ≡ opened_world) }
-    {
-        Ok(World {
-            service: Service::new(alloc)?,
-            sessions: Sessions::new(alloc)?,
-            buf: ReplyBuf::new(alloc)?,
-            ended: false,
-        })
-    }
+/// A world over files that were opened, in the first epoch.
+fn over(alloc: Global, files: DurableTree) -> Result<World, NoMemory>
+    ensures { IfOk result (λ world. world ≡ opened_world files.tree files.journal) }
+{
+    Ok(World {
+        service: Service::new(FIRST_EPOCH, files),
+        sessions: Sessions::new(alloc)?,
+        buf: ReplyBuf::new(alloc)?,
+        ended: false,
+    })
+}
 
-    /// Opens: the first epoch, the empty tree, and no session has begun. Writes the frame that says so.
+/// A world over the empty tree of a volume and this journal.
+fn over_journal(alloc: Global, volume: u64, journal: Journal) -> Result<World, NoMemory>
+    requires { volume ≤ 2 ^ 62 }
+    ensures { IfOk result (λ world. world ≡ opened_world (empty_tree volume) journal) }
+{
+    let tree = Tree::empty(alloc, volume)?;
+    over(alloc, DurableTree::new(alloc, tree, journal))
+}
+
+impl World {
+    /// Opens a journal that is blank, in the first epoch: the empty tree, no changes, and no session has begun. The journal's first area is
+    /// open then. Writes the frame that says so.
     ///
-    /// `Memory` where there is no memory for the empty tree, the buffer of a reply and the list of sessions; nothing is written then.
-    /// `SinkFault` where a write failed; the sink was given a prefix of the frame then.
-    pub fn start<K: Sink>(alloc: Global, sink: &mut K) -> Result<World, Status>
-        ensures world { IfOk result (λ world. Stands world opened) }
+    /// `Foreign` where the journal is not blank, with the place on the disk; `JournalFault` where a call of the disk failed; `Memory`
+    /// where there is no memory for the journal, the empty tree, the buffer of a reply and the list of sessions. Nothing is written to
+    /// the sink then. `SinkFault` where a write failed; the sink was given a prefix of the frame then.
+    pub fn start<S: Site, K: Sink>(
+        alloc: Global,
+        site: &mut S,
+        sink: &mut K,
+        settings: Settings,
+    ) -> Result<World, Status>
+        requires settled { NothingPending S.Storage site.old }
+
+        ensures world { IfOk result (λ world. Stands S.Storage world site.new (opened (begun_journal settings.volume settings.journal_area (S.bytes_of site.old)))) }
         ensures going { IfOk result (λ world. world.ended ≡ false) }
+        ensures serving { IfOk result (λ world. IsServing S.Storage world.service site.new) }
         ensures ok { OnOk result (Given (K.written sink.old) (K.written sink.new) (out_frame opening)) }
-        ensures memory { IsErrOf result Status.Memory → sink.new ≡ sink.old }
+        ensures unwritten { IfErr result (λ status. IsOfOpening status → sink.new ≡ sink.old) }
         ensures partly { IsErrOf result Status.SinkFault
             → GivenPart (K.written sink.old) (K.written sink.new) (out_frame opening) }
-        ensures statuses { IfErr result (λ status. (status ≡ Status.Memory) ⊎ (status ≡ Status.SinkFault)) }
+
+        // What is not blank is not opened, and a crash at any moment leaves what was there or a journal that has no entries.
+        ensures foreign { (at : ℕ) → IsErrOf result (Status.Foreign at) → WhereTold (S.image site.old) (IsForeign settings.volume settings.journal_area at) }
+        ensures any_moment { LeavesBlank S.Storage settings.volume settings.journal_area site.old site.new }
+        ensures tells { OnOk result (BothTold (λ old new. Unit {0}) (S.image site.old) (S.image site.new)) }
+
+        ensures statuses { IfErr result (λ status. IsOfOpening status ⊎ (status ≡ Status.SinkFault)) }
+        ensures beside { SameCloud S.Storage site.old site.new }
+        ensures size { S.bytes_of site.new ≡ S.bytes_of site.old }
+        ensures disk_cause { Counts (S.disk_faults site.old) (S.disk_faults site.new) (IsErrOf result Status.JournalFault) }
+        ensures cloud { S.cloud_faults site.new ≡ S.cloud_faults site.old }
         ensures cause { Counts (K.faults sink.old) (K.faults sink.new) (IsErrOf result Status.SinkFault) }
     {
-        let Ok(world) = World::new(alloc) else {
+        let (volume, area) = (settings.volume(), settings.journal_area());
+        let journal = open_journal(alloc, site, volume, area)?;
+        let Ok(world) = over_journal(alloc, volume, journal) else {
             return Err(Status::Memory);
         };
         let frame = OutFrame::Opened {
@@ -207,36 +293,74 @@ impl World {
     }
 
     /// Does a frame 2: handles the payload of a session that is open, and passes over that of another.
-    fn feed<K: Sink>(
+    fn feed<D: Disk, K: Sink>(
         &mut self,
         alloc: Global,
         session: u32,
         payload: &[u8],
+        disk: &mut D,
         sink: &mut K,
-    ) -> Result<(), Failed>
-        requires { session < session_count }
-        ensures ok { OnOk result (Stepped self.old (frames.Bytes session payload.now) self.new
-            (K.written sink.old) (K.written sink.new)) }
-        ensures partly { OnErr result (SteppedPart self.old (frames.Bytes session payload.now)
-            (K.written sink.old) (K.written sink.new)) }
-        ensures cause { Counts (K.faults sink.old) (K.faults sink.new) (IsErr result) }
+    ) -> Result<(), Status>
+        requires session { session < session_count }
+        requires serving { IsServing D.Storage self.old.service disk.old }
+        ensures ok { OnOk result (Stepped D.Storage self.old disk.old (frames.Bytes session payload.now) self.new disk.new
+            (record { before = K.written sink.old; after = K.written sink.new })) }
+        ensures serving { OnOk result (IsServing D.Storage self.new.service disk.new) }
+        ensures partly { IsErrOf result Status.SinkFault → SteppedPart D.Storage self.old disk.old (frames.Bytes session payload.now) disk.new
+            (record { before = K.written sink.old; after = K.written sink.new }) }
+        ensures fails { IsErrOf result Status.JournalFault → SteppedDown D.Storage self.old disk.old (frames.Bytes session payload.now) disk.new
+            (record { before = K.written sink.old; after = K.written sink.new }) }
+        ensures statuses { IfErr result (λ status. (status ≡ Status.JournalFault) ⊎ (status ≡ Status.SinkFault)) }
+        ensures size { D.bytes_of disk.new ≡ D.bytes_of disk.old }
+        ensures disk_cause { Counts (D.disk_faults disk.old) (D.disk_faults disk.new) (IsErrOf result Status.JournalFault) }
+        ensures cause { Counts (K.faults sink.old) (K.faults sink.new) (IsErrOf result Status.SinkFault) }
     {
-        let next = match self.sessions.take(session) {
+        match self.sessions.take(session) {
             Session::Open(assembler) => {
-                feed_payload(
-                    alloc,
-                    &mut self.service,
-                    &mut self.buf,
-                    session,
-                    assembler,
-                    payload,
-                    sink,
-                )?
+                self.feed_open(alloc, session, assembler, payload, disk, sink)
             }
-            other => other,
-        };
-        self.sessions.put(session, next);
-        Ok(())
+            other => {
+                self.sessions.put(session, other);
+                Ok(())
+            }
+        }
+    }
+
+    /// Handles the payload of an open session, and puts what the session then is in its place.
+    fn feed_open<D: Disk, K: Sink>(
+        &mut self,
+        alloc: Global,
+        session: u32,
+        assembler: Assembler,
+        payload: &[u8],
+        disk: &mut D,
+        sink: &mut K,
+    ) -> Result<(), Status>
+        requires session { session < session_count }
+        requires ready { IsOpen assembler.progress }
+        requires serving { IsServing D.Storage self.old.service disk.old }
+        ensures ok { OnOk result ((next : Session) × Handled D.Storage session self.old.service disk.old assembler payload.now self.new.service disk.new next
+            (record { before = K.written sink.old; after = K.written sink.new })
+            × (self.new.sessions ≡ slice_set self.old.sessions session next)) }
+        ensures over { self.new.ended ≡ self.old.ended }
+        ensures serving { OnOk result (IsServing D.Storage self.new.service disk.new) }
+        ensures partly { IsErrOf result Status.SinkFault → HandledPart D.Storage session self.old.service disk.old assembler payload.now disk.new
+            (record { before = K.written sink.old; after = K.written sink.new }) }
+        ensures fails { IsErrOf result Status.JournalFault → HandledDown D.Storage session self.old.service disk.old assembler payload.now disk.new
+            (record { before = K.written sink.old; after = K.written sink.new }) }
+        ensures statuses { IfErr result (λ status. (status ≡ Status.JournalFault) ⊎ (status ≡ Status.SinkFault)) }
+        ensures size { D.bytes_of disk.new ≡ D.bytes_of disk.old }
+        ensures disk_cause { Counts (D.disk_faults disk.old) (D.disk_faults disk.new) (IsErrOf result Status.JournalFault) }
+        ensures cause { Counts (K.faults sink.old) (K.faults sink.new) (IsErrOf result Status.SinkFault) }
+    {
+        let (service, buf) = (&mut self.service, &mut self.buf);
+        match feed_payload(alloc, service, buf, session, assembler, payload, disk, sink) {
+            Ok(next) => {
+                self.sessions.put(session, next);
+                Ok(())
+            }
+            Err(status) => Err(status),
+        }
     }
 
     /// Sets the moment of the calls that follow.
@@ -246,23 +370,60 @@ impl World {
         self.service.set_moment(at);
     }
 
+    /// What the proxy has, as numbers: how long the history is, how many changes are stable, and the epoch. There is no checkpoint and no object
+    /// with items.
+    fn stats(&self) -> Stats
+        ensures { result ≡ stats_shown self.now }
+    {
+        Stats {
+            history: self.service.last(),
+            mark: self.service.mark(),
+            epoch: self.service.epoch(),
+            covers: 0,
+            merged: 0,
+            residents: 0,
+            proxy_bytes: 0,
+            cleaner_bytes: 0,
+        }
+    }
+
+    /// Does a frame 16: writes what the proxy has.
+    fn tell<K: Sink>(&self, sink: &mut K) -> Result<(), Status>
+        ensures ok { OnOk result (Given (K.written sink.old) (K.written sink.new) (out_frame (frames.Counted (stats_shown self.now)))) }
+        ensures partly { IsErrOf result Status.SinkFault → GivenPart (K.written sink.old) (K.written sink.new) (out_frame (frames.Counted (stats_shown self.now))) }
+        ensures statuses { IfErr result (λ status. status ≡ Status.SinkFault) }
+        ensures cause { Counts (K.faults sink.old) (K.faults sink.new) (IsErrOf result Status.SinkFault) }
+    {
+        match write_out_frame(sink, &OutFrame::Counted(self.stats())) {
+            Ok(()) => Ok(()),
+            Err(Failed) => Err(Status::SinkFault),
+        }
+    }
+
     /// Does one frame, and writes its answers.
-    fn do_frame<K: Sink>(
+    fn do_frame<D: Disk, K: Sink>(
         &mut self,
         alloc: Global,
         frame: &Frame<'_>,
+        disk: &mut D,
         sink: &mut K,
     ) -> Result<(), Status>
         requires formed { IsInFrame (frame_of frame.now) }
         requires step { IsStep (frame_of frame.now) }
-        ensures ok { OnOk result (Stepped self.old (frame_of frame.now) self.new
-            (K.written sink.old) (K.written sink.new)) }
+        requires serving { IsServing D.Storage self.old.service disk.old }
+        ensures ok { OnOk result (Stepped D.Storage self.old disk.old (frame_of frame.now) self.new disk.new
+            (record { before = K.written sink.old; after = K.written sink.new })) }
+        ensures serving { OnOk result (IsServing D.Storage self.new.service disk.new) }
         ensures memory { IsErrOf result Status.Memory → BeginsFirst self.old (frame_of frame.now) }
         ensures unwritten { IsErrOf result Status.Memory → sink.new ≡ sink.old }
-        ensures unchanged { IsErrOf result Status.Memory → self.new ≡ self.old }
+        ensures unchanged { IsErrOf result Status.Memory → (self.new ≡ self.old) × (disk.new ≡ disk.old) }
         ensures partly { IsErrOf result Status.SinkFault
-            → SteppedPart self.old (frame_of frame.now) (K.written sink.old) (K.written sink.new) }
-        ensures statuses { IfErr result (λ status. (status ≡ Status.Memory) ⊎ (status ≡ Status.SinkFault)) }
+            → SteppedPart D.Storage self.old disk.old (frame_of frame.now) disk.new (record { before = K.written sink.old; after = K.written sink.new }) }
+        ensures fails { IsErrOf result Status.JournalFault
+            → SteppedDown D.Storage self.old disk.old (frame_of frame.now) disk.new (record { before = K.written sink.old; after = K.written sink.new }) }
+        ensures statuses { IfErr result (λ status. (status ≡ Status.Memory) ⊎ (status ≡ Status.SinkFault) ⊎ (status ≡ Status.JournalFault)) }
+        ensures size { D.bytes_of disk.new ≡ D.bytes_of disk.old }
+        ensures disk_cause { Counts (D.disk_faults disk.old) (D.disk_faults disk.new) (IsErrOf result Status.JournalFault) }
         ensures cause { Counts (K.faults sink.old) (K.faults sink.new) (IsErrOf result Status.SinkFault) }
     {
         match frame {
@@ -270,10 +431,7 @@ impl World {
                 Ok(()) => Ok(()),
                 Err(NoMemory) => Err(Status::Memory),
             },
-            Frame::Bytes { session, payload } => match self.feed(alloc, *session, payload, sink) {
-                Ok(()) => Ok(()),
-                Err(Failed) => Err(Status::SinkFault),
-            },
+            Frame::Bytes { session, payload } => self.feed(alloc, *session, payload, disk, sink),
             Frame::Close { session } => {
                 self.close(*session);
                 Ok(())
@@ -282,39 +440,51 @@ impl World {
                 self.set_moment(*at);
                 Ok(())
             }
+            Frame::Stat => self.tell(sink),
             Frame::End => unreachable!(),
         }
     }
 
     /// Does one frame, and writes the frames that answer it. Each record of a session that ends in the frame is answered,
-    /// and only then the next is looked at. It ends the world where it answers an error.
+    /// and only then the next is looked at; a change that is stable is on the disk before its reply is written. It ends the world where it
+    /// answers an error. The site is the one over which the world was opened, with which nothing else was done since.
     ///
     /// `Memory` where a session begins for the first time and there is no memory for its buffer; nothing is written then,
-    /// and nothing else has changed. `SinkFault` where a write failed; the sink was given a prefix of the answers then.
-    pub fn step<K: Sink>(
+    /// and nothing else has changed. `SinkFault` where a write failed; the sink was given a prefix of the answers then. `JournalFault` where a
+    /// call of the disk failed in a record; the sink was given the answers to the records before it.
+    pub fn step<S: Site, K: Sink>(
         &mut self,
         alloc: Global,
         frame: &Frame<'_>,
+        site: &mut S,
         sink: &mut K,
     ) -> Result<(), Status>
         requires formed { IsInFrame (frame_of frame.now) }
         requires step { IsStep (frame_of frame.now) }
         requires going { self.old.ended ≡ false }
+        requires serving { IsServing S.Storage self.old.service site.old }
 
-        // The frame has a step, in each state that the world stands for. The world then stands for the state after it.
-        ensures ok { OnOk result (Stepped self.old (frame_of frame.now) self.new
-            (K.written sink.old) (K.written sink.new)) }
+        // The frame has a step, in each state that the world stands for. The world then stands for the state after it. A crash at any
+        // moment of the step leaves a prefix of the history that holds the mark from before, and from its end on one that holds the
+        // mark from after.
+        ensures ok { OnOk result (Stepped S.Storage self.old site.old (frame_of frame.now) self.new site.new
+            (record { before = K.written sink.old; after = K.written sink.new })) }
+        ensures serving { OnOk result (IsServing S.Storage self.new.service site.new) }
 
         ensures memory { IsErrOf result Status.Memory → BeginsFirst self.old (frame_of frame.now) }
         ensures unwritten { IsErrOf result Status.Memory → sink.new ≡ sink.old }
-        ensures unchanged { IsErrOf result Status.Memory → self.new ≡ record self.old { ended = true } }
+        ensures unchanged { IsErrOf result Status.Memory → (self.new ≡ record self.old { ended = true }) × (site.new ≡ site.old) }
         ensures partly { IsErrOf result Status.SinkFault
-            → SteppedPart self.old (frame_of frame.now) (K.written sink.old) (K.written sink.new) }
-        ensures statuses { IfErr result (λ status. (status ≡ Status.Memory) ⊎ (status ≡ Status.SinkFault)) }
+            → SteppedPart S.Storage self.old site.old (frame_of frame.now) site.new (record { before = K.written sink.old; after = K.written sink.new }) }
+        ensures fails { IsErrOf result Status.JournalFault
+            → SteppedDown S.Storage self.old site.old (frame_of frame.now) site.new (record { before = K.written sink.old; after = K.written sink.new }) }
+        ensures statuses { IfErr result (λ status. (status ≡ Status.Memory) ⊎ (status ≡ Status.SinkFault) ⊎ (status ≡ Status.JournalFault)) }
         ensures ended { self.new.ended ≡ is_err result }
+        ensures size { S.bytes_of site.new ≡ S.bytes_of site.old }
+        ensures disk_cause { Counts (S.disk_faults site.old) (S.disk_faults site.new) (IsErrOf result Status.JournalFault) }
         ensures cause { Counts (K.faults sink.old) (K.faults sink.new) (IsErrOf result Status.SinkFault) }
     {
-        let outcome = self.do_frame(alloc, frame, sink);
+        let outcome = self.do_frame(alloc, frame, site, sink);
         self.ended = outcome.is_err();
         outcome
     }

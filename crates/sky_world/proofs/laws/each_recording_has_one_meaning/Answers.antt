@@ -7,8 +7,8 @@ pub returns-clause-some : goal.returns-clause-some
 returns-clause-some c = frames_some
 
 pub returns-clause-one : goal.returns-clause-one
-returns-clause-one c = frames_one start
+returns-clause-one c = λ journal. frames_one (start journal)
 
 pub returns-clause-told : goal.returns-clause-told
-returns-clause-told c = λ frames outs others last other first none second no.
-    frames_one start frames outs others last other (steps_told start frames outs last first none) (steps_told start frames others other second no)
+returns-clause-told c = λ journal frames outs others last other first none second no.
+    frames_one (start journal) frames outs others last other (steps_told (start journal) frames outs last first none) (steps_told (start journal) frames others other second no)

@@ -1,23 +1,41 @@
-use Rattle.std.proofs.Common.{sym, ◌∙◌}
+use Rattle.std.proofs.Common.{◌≡◌, ◌∙◌, List, set, sym, ap, subst}
 use Rattle.std.proofs.lemmas.List.{set-set}
+use Rattle.sky_world.specs.declared.sessions.Session.{Session}
 use Rattle.sky_world.specs.declared.sessions.Session.TheVariants.{Absent}
 use Rattle.sky_world.specs.World.{WorldView}
+use Rattle.sky_world.proofs.PayloadLaws.{got}
+use Rattle.sky_world.proofs.ServeLaws.{ok_then}
+use Rattle.sky_world.proofs.StandLaws.{stepped_down, stepped_fed, stepped_part, stepped_passed}
 use Rattle.sky_world.proofs.world.World.feed.Goals as goal
-use Rattle.sky_world.proofs.world.World.feed.Goals.{in-Open+in_ok-next-in-Open, in_default}
-use Rattle.sky_world.proofs.StandLaws.{stepped_open, stepped_passed}
 
-pub returns-clause-ok : goal.returns-clause-ok
-returns-clause-ok g c =
+pub returns-in-Open-clause-ok : goal.returns-in-Open-clause-ok
+returns-in-Open-clause-ok g c =
     let i = c.self.inside in
     let world : WorldView = record { service = i.service; sessions = i.sessions; ended = i.ended } in
-    let n = c.args.session in
-    elim c.match-take.branch [
-      | in-Open+in_ok-next-in-Open w ↦
-          let slot = sym c.take.ensures.taken ∙ w.in-Open.is in
-          let next = w.in_ok-next-in-Open.next in
-          let step = stepped_open world n c.args.payload.now c.requires (g.K.Sink.written c.args.sink.now) (g.K.Sink.written w.feed_payload.new.sink) w.in-Open.assembler w.feed_payload.new.service next slot w.in_ok-next-in-Open.ensures.ok in
-          rw (← c.self.view_is, c.put.ensures, w.sink-is, w.next-is, w.self-inside-is, c.take.ensures.left, set-set i.sessions n Absent next) step
-      | in_default w ↦
-          let step = stepped_passed world n c.args.payload.now c.requires (g.K.Sink.written c.args.sink.now) (g.K.Sink.written c.args.sink.now) c.take.result (sym c.take.ensures.taken) w.in_default.not-Open in
-          rw (← c.self.view_is, c.put.ensures, w.sink-is, w.next-is, w.self-inside-is, c.take.ensures.left, set-set i.sessions n Absent c.take.result) step
-    ]
+    let new = c.feed_open.new.self in
+    rw (← c.self.view_is)
+    (ok_then c.feed_open.result (λ h. stepped_fed g.D.Storage world c.args.disk.now c.feed_open.new.disk c.args.session c.args.payload.now c.requires.session (got (g.K.Sink.written c.args.sink.now) (g.K.Sink.written c.feed_open.new.sink))
+    c.in-Open.assembler new h.0 (sym c.take.ensures.taken ∙ c.in-Open.is) h.1 (h.2 ∙ ap (λ (ss : List Session). set ss c.args.session h.0) c.take.ensures.left ∙ set-set i.sessions c.args.session Absent h.0) c.feed_open.ensures.over) c.feed_open.ensures.ok)
+
+pub returns-in-Open-clause-partly : goal.returns-in-Open-clause-partly
+returns-in-Open-clause-partly g c = λ e.
+    let i = c.self.inside in
+    let world : WorldView = record { service = i.service; sessions = i.sessions; ended = i.ended } in
+    rw (← c.self.view_is)
+    (stepped_part g.D.Storage world c.args.disk.now c.feed_open.new.disk c.args.session c.args.payload.now c.requires.session (got (g.K.Sink.written c.args.sink.now) (g.K.Sink.written c.feed_open.new.sink)) c.in-Open.assembler
+    (sym c.take.ensures.taken ∙ c.in-Open.is) (c.feed_open.ensures.partly e))
+
+pub returns-in-Open-clause-fails : goal.returns-in-Open-clause-fails
+returns-in-Open-clause-fails g c = λ e.
+    let i = c.self.inside in
+    let world : WorldView = record { service = i.service; sessions = i.sessions; ended = i.ended } in
+    rw (← c.self.view_is)
+    (stepped_down g.D.Storage world c.args.disk.now c.feed_open.new.disk c.args.session c.args.payload.now c.requires.session (got (g.K.Sink.written c.args.sink.now) (g.K.Sink.written c.feed_open.new.sink)) c.in-Open.assembler
+    (sym c.take.ensures.taken ∙ c.in-Open.is) (c.feed_open.ensures.fails e))
+
+pub returns-in_default-clause-ok : goal.returns-in_default-clause-ok
+returns-in_default-clause-ok g c =
+    let i = c.self.inside in
+    let world : WorldView = record { service = i.service; sessions = i.sessions; ended = i.ended } in
+    rw (← c.self.view_is, c.put.ensures, c.take.ensures.left, set-set i.sessions c.args.session Absent c.take.result)
+    (stepped_passed g.D.Storage world c.args.disk.now (g.K.Sink.written c.args.sink.now) c.args.session c.args.payload.now c.take.result (sym c.take.ensures.taken) c.in_default.not-Open)
