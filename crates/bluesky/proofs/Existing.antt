@@ -11,7 +11,8 @@ use Rattle.sky_base.specs.declared.status.Status.{Status}
 use Rattle.sky_base.specs.declared.status.Status.TheVariants.{Done, Malformed, Early, Long}
 use Rattle.sky_xdr.specs.Encoding.{AreBytes}
 use Rattle.sky_xdr.proofs.Numbers.{AreBytes-drop, AreBytes-take}
-use Rattle.sky_script.specs.Frame.{InFrame, Begin, Bytes, Close, SetMoment, End, OutFrame, IsInFrame, parts_of, header, in_frame, in_frames, magic}
+use Rattle.sky_journal.specs.Journal.{JournalView}
+use Rattle.sky_script.specs.Frame.{InFrame, Begin, Bytes, Close, SetMoment, Stat, End, OutFrame, IsInFrame, parts_of, header, in_frame, in_frames, magic}
 use Rattle.sky_script.specs.Beginning.{IsRefused, IsCutShort, within_header, with_frame, with_refused, cut_short}
 use Rattle.sky_script.proofs.FrameLaws.{in_frame_bound, frame-parts}
 use Rattle.sky_script.proofs.Beginnings.{begins}
@@ -32,8 +33,8 @@ AreBytes-right : (xs ys : List ℕ) → AreBytes (xs ++ ys) → AreBytes ys
 AreBytes-right xs ys fits = subst AreBytes (drop-append_seam xs ys) (AreBytes-drop (length xs) (xs ++ ys) fits)
 
 -- at the opening no session has a stream
-start_has : HasByteStreams start
-start_has = all-replicate HasBytes 256 Absent tt
+start_has : (journal : JournalView) → HasByteStreams (start journal)
+start_has journal = all-replicate HasBytes 256 Absent tt
 
 -- what a frame carries is bytes, where its payload is
 carries : (f : InFrame) → AreBytes (parts_of f).payload → CarriesBytes f
@@ -41,6 +42,7 @@ carries (Begin session) fits = tt
 carries (Bytes session payload) fits = are_bytes payload fits
 carries (Close session) fits = tt
 carries (SetMoment at) fits = tt
+carries Stat fits = tt
 carries End fits = tt
 
 -- the payload of a frame among bytes, and what follows it
@@ -55,6 +57,7 @@ end_or_step (Begin session) = inr tt
 end_or_step (Bytes session payload) = inr tt
 end_or_step (Close session) = inr tt
 end_or_step (SetMoment at) = inr tt
+end_or_step Stat = inr tt
 end_or_step End = inl refl
 
 -- ---- behind the magic
@@ -132,9 +135,9 @@ reads_from (suc fuel) (suc budget) s left long fits has =
 -- ---- from the magic on
 
 -- a reading of some status
-abbrev HasReading : List ℕ → Type 0
-HasReading bytes =
-    (frames : List InFrame) × (answers : List OutFrame) × (last : State) × (status : Status) × (rest : List ℕ) × IsReading Ample bytes frames answers last status rest
+abbrev HasReading : JournalView → List ℕ → Type 0
+HasReading journal bytes =
+    (frames : List InFrame) × (answers : List OutFrame) × (last : State) × (status : Status) × (rest : List ℕ) × IsReading Ample journal bytes frames answers last status rest
 
 -- what is told was taken
 took : (bytes taken rest : List ℕ) → bytes ≡ taken ++ rest → Took (record { had = Some bytes; left = Some rest }) taken
@@ -147,43 +150,43 @@ taken_behind bytes left frames next rest e is =
     took bytes (recording frames next) rest
     (e ∙ ap (λ (x : List ℕ). magic ++ x) is ∙ sym (append_assoc magic (in_frames frames) (next ++ rest)) ∙ sym (append_assoc (magic ++ in_frames frames) next rest))
 
-behind_magic : (bytes left : List ℕ) (frames : List InFrame) (answers : List OutFrame) (last : State) → bytes ≡ magic ++ left → AllByRecursion IsInFrame frames
-    → Steps Ample start frames answers last → StopsFrom frame_limit frames left → HasReading bytes
-behind_magic bytes left frames answers last e formed steps (ends few rest is) =
+behind_magic : (journal : JournalView) (bytes left : List ℕ) (frames : List InFrame) (answers : List OutFrame) (last : State) → bytes ≡ magic ++ left → AllByRecursion IsInFrame frames
+    → Steps Ample (start journal) frames answers last → StopsFrom frame_limit frames left → HasReading journal bytes
+behind_magic journal bytes left frames answers last e formed steps (ends few rest is) =
     (frames, answers, last, Done, rest, record { handled = record { formed = formed; steps = steps }; read = (few, taken_behind bytes left frames (in_frame End) rest e is) })
-behind_magic bytes left frames answers last e formed steps (refused few taken rest no_one is) =
+behind_magic journal bytes left frames answers last e formed steps (refused few taken rest no_one is) =
     (frames, answers, last, Malformed (8 + length (in_frames frames)), rest, record { handled = record { formed = formed; steps = steps }; read = (few, no_frame taken refl no_one (taken_behind bytes left frames taken rest e is)) })
-behind_magic bytes left frames answers last e formed steps (cut few taken short is) =
+behind_magic journal bytes left frames answers last e formed steps (cut few taken short is) =
     let all : left ≡ in_frames frames ++ (taken ++ []) = is ∙ ap (λ (x : List ℕ). in_frames frames ++ x) (sym (append-nil taken)) in
     (frames, answers, last, Early, [], record { handled = record { formed = formed; steps = steps }; read = (few, within_frame taken short (taken_behind bytes left frames taken [] e all), refl) })
-behind_magic bytes left frames answers last e formed steps (full all rest is) =
+behind_magic journal bytes left frames answers last e formed steps (full all rest is) =
     (frames, answers, last, Long, rest, record { handled = record { formed = formed; steps = steps }; read = (all, taken_behind bytes left frames [] rest e is) })
 
 -- nothing was handled
-none_handled : Handled Ample [] [] start
-none_handled = record { formed = tt; steps = (refl, refl) }
+none_handled : (journal : JournalView) → Handled Ample journal [] [] (start journal)
+none_handled journal = record { formed = tt; steps = (refl, refl) }
 
 -- bytes that are no magic, or too few for it
-before_frames : (bytes : List ℕ) → length bytes < 8 → HasReading bytes
-before_frames bytes short =
-    ([], [], start, Early, [], record { handled = none_handled; read = (omega arith, within_magic bytes refl short (took bytes bytes [] (sym (append-nil bytes))), refl) })
+before_frames : (journal : JournalView) (bytes : List ℕ) → length bytes < 8 → HasReading journal bytes
+before_frames journal bytes short =
+    ([], [], start journal, Early, [], record { handled = none_handled journal; read = (omega arith, within_magic bytes refl short (took bytes bytes [] (sym (append-nil bytes))), refl) })
 
-no_magic : (bytes : List ℕ) → 8 ≤ length bytes → take 8 bytes ≢ magic → HasReading bytes
-no_magic bytes long other =
+no_magic : (journal : JournalView) (bytes : List ℕ) → 8 ≤ length bytes → take 8 bytes ≢ magic → HasReading journal bytes
+no_magic journal bytes long other =
     let read = other_magic (take 8 bytes) refl refl (length-take-le 8 bytes long) other (took bytes (take 8 bytes) (drop 8 bytes) (sym (take-append-drop 8 bytes))) in
-    ([], [], start, Malformed 0, drop 8 bytes, record { handled = none_handled; read = (omega arith, read) })
+    ([], [], start journal, Malformed 0, drop 8 bytes, record { handled = none_handled journal; read = (omega arith, read) })
 
-pub reading_exists : (bytes : List ℕ) → AreBytes bytes → HasReading bytes
-reading_exists bytes fits =
+pub reading_exists : (bytes : List ℕ) (journal : JournalView) → AreBytes bytes → HasReading journal bytes
+reading_exists bytes journal fits =
     elim (cases_lt (length bytes) 8) [
-      | inl short ↦ before_frames bytes short
+      | inl short ↦ before_frames journal bytes short
       | inr long ↦ elim (cases_Bool (pointwise nat_eq (take 8 bytes) magic)) [
-        | inr other ↦ no_magic bytes long (other_text (take 8 bytes) magic (sym other))
+        | inr other ↦ no_magic journal bytes long (other_text (take 8 bytes) magic (sym other))
         | inl same ↦
             let left : List ℕ = drop 8 bytes in
             let parts : bytes ≡ magic ++ left = sym (take-append-drop 8 bytes) ∙ ap (λ (x : List ℕ). x ++ left) (same_text (take 8 bytes) magic (sym same)) in
-            let reads = reads_from (length left) frame_limit start left (omega arith) (AreBytes-drop 8 bytes fits) start_has in
-            behind_magic bytes left reads.frames reads.answers reads.last parts reads.formed reads.steps reads.stops
+            let reads = reads_from (length left) frame_limit (start journal) left (omega arith) (AreBytes-drop 8 bytes fits) (start_has journal) in
+            behind_magic journal bytes left reads.frames reads.answers reads.last parts reads.formed reads.steps reads.stops
       ]
     ]
 

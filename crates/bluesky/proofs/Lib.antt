@@ -3,5 +3,6 @@ mod Comparing
 mod OneReading
 pub mod Existing
 mod Going
+mod Leaving
 mod Stopping
 mod Beginning

@@ -1,17 +1,27 @@
--- How a run goes on by one frame, or stops, and how it then comes to its status.
+-- How a run opens its journal, goes on by one frame, or stops, and how it then comes to its status.
 use Rattle.std.specs.Prelude.{◌≡◌, ◌≢◌, ◌<◌, ◌⊎◌, ℕ, List, [], length, Option}
 use Rattle.sky_base.specs.declared.status.Status.{Status}
 use Rattle.sky_base.specs.declared.status.Status.TheVariants as status
 use Rattle.sky_outside.specs.Count.{Rose}
-use Rattle.sky_outside.specs.Told.{WhereTold, Had}
+use Rattle.sky_outside.specs.Moments.{SameCloud}
+use Rattle.sky_outside.specs.Told.{WhereTold, BothTold, Had, Given}
+use Rattle.sky_outside.specs.declared.storage.Storage.{Ghosts}
 use Rattle.sky_script.specs.Frame.{InFrame, End as EndFrame, Ended, IsInFrame, in_frame, out_frame, magic}
 use Rattle.sky_script.specs.Beginning.{IsRefused, IsCutShort, HadSome}
 use Rattle.sky_script.specs.declared.reading.FrameFault.{FrameFault}
 use Rattle.sky_script.specs.declared.reading.FrameFault.TheVariants as fault
-use Rattle.sky_world.specs.World.{WorldView, SteppedPart, BeginsFirst}
-use Rattle.bluesky.specs.Run.{SinkUse, Gave, GaveUpTo, GaveEnding}
+use Rattle.sky_world.specs.Opening.{LeavesBlank}
+use Rattle.sky_world.specs.World.{WorldView, SinkGot, SteppedPart, SteppedDown, BeginsFirst}
+use Rattle.bluesky.specs.Run.{SourceUse, Took, SinkUse, Gave, GaveUpTo, GaveEnding, Ran, session_bytes, volume, area_size}
 use Rattle.bluesky.specs.declared.frames.Stop.{Stop}
-use Rattle.bluesky.specs.declared.frames.Stop.TheVariants.{End, Malformed, Early, SourceFault, SinkFault, Memory}
+use Rattle.bluesky.specs.declared.frames.Stop.TheVariants.{End, Malformed, Early, SourceFault, SinkFault, JournalFault, Memory}
+
+-- from s to t the journal was opened, which was blank
+pub record Opened {S : Type 0} (g : Ghosts S) (s t : S) : Type 0 where
+  pub size : g.bytes_of t ≡ g.bytes_of s
+  pub leaves : LeavesBlank g volume area_size s t
+  pub tells : BothTold (λ old new. Unit {0}) (g.image s) (g.image t)
+  pub beside : SameCloud g s t
 
 -- why a fault of a frame stops a run
 abbrev pub stop_of : FrameFault → Stop
@@ -19,17 +29,19 @@ stop_of fault.Malformed = Malformed
 stop_of fault.Early = Early
 stop_of fault.SourceFault = SourceFault
 
--- what is known where no further frame was read and handled, by why: where the source and the sink were before that call and
--- are behind it, and what the world was before
-abbrev pub StoppedBy : Stop → WorldView → (had left before after : Option (List ℕ)) → Type 0
-StoppedBy End world had left before after = Had had left (in_frame EndFrame) × (after ≡ before)
-StoppedBy Malformed world had left before after = HadSome IsRefused had left × (after ≡ before)
-StoppedBy Early world had left before after = HadSome IsCutShort had left × WhereTold left (λ rest. rest ≡ []) × (after ≡ before)
-StoppedBy SourceFault world had left before after = HadSome IsCutShort had left × (after ≡ before)
-StoppedBy SinkFault world had left before after =
-    (f : InFrame) × IsInFrame f × Had had left (in_frame f) × SteppedPart world f before after
-StoppedBy Memory world had left before after =
-    (f : InFrame) × IsInFrame f × Had had left (in_frame f) × BeginsFirst world f × (after ≡ before)
+-- nothing was written, and the site was left alone
+abbrev pub DidNothing : {S : Type 0} → S → S → SinkGot → Type 0
+DidNothing s t sink = (sink.after ≡ sink.before) × (t ≡ s)
+
+-- what is known where no further frame was read and handled, by why: what that call did from s to t, and what the world was before
+abbrev pub StoppedBy : {S : Type 0} → Ghosts S → Stop → WorldView → S → S → SourceUse → SinkGot → Type 0
+StoppedBy g End world s t source sink = Took source (in_frame EndFrame) × DidNothing s t sink
+StoppedBy g Malformed world s t source sink = HadSome IsRefused source.had source.left × DidNothing s t sink
+StoppedBy g Early world s t source sink = HadSome IsCutShort source.had source.left × WhereTold source.left (λ rest. rest ≡ []) × DidNothing s t sink
+StoppedBy g SourceFault world s t source sink = HadSome IsCutShort source.had source.left × DidNothing s t sink
+StoppedBy g SinkFault world s t source sink = (f : InFrame) × IsInFrame f × Took source (in_frame f) × SteppedPart g world s f t sink
+StoppedBy g JournalFault world s t source sink = (f : InFrame) × IsInFrame f × Took source (in_frame f) × SteppedDown g world s f t sink
+StoppedBy g Memory world s t source sink = (f : InFrame) × IsInFrame f × Took source (in_frame f) × BeginsFirst world f × DidNothing s t sink
 
 -- from a stop at this place, a run ends with this status, and does this with its sink
 abbrev pub Finishes : Stop → ℕ → Status → SinkUse → Type 0
@@ -39,8 +51,16 @@ Finishes End place s sink =
 Finishes Malformed place s sink = (s ≡ status.Malformed place) × GaveEnding sink [] (status.Malformed place)
 Finishes Early place s sink = (s ≡ status.Early) × GaveEnding sink [] status.Early
 Finishes SourceFault place s sink = (s ≡ status.SourceFault) × GaveEnding sink [] status.SourceFault
+Finishes JournalFault place s sink = (s ≡ status.JournalFault) × GaveEnding sink [] status.JournalFault
 Finishes Memory place s sink = (s ≡ status.Memory) × GaveEnding sink [] status.Memory
 Finishes SinkFault place s sink = (s ≡ status.SinkFault) × (sink.after ≡ sink.before) × (sink.faults_after ≡ sink.faults_before)
+
+-- Frames were handled, from t to u, with this end: of each run that had opened its journal, at t, read the magic, and written the
+-- frame of the opening, that is what it did.
+abbrev pub RanBehind : {S : Type 0} → Ghosts S → S → S → Status → SourceUse → SinkUse → Type 0
+RanBehind {S} g t u status source sink =
+    (s : S) (had before : Option (List ℕ)) → Opened g s t → Had had source.had magic → Given before sink.before (session_bytes [])
+    → Ran g s u status (record source { had = had }) (record sink { before = before })
 
 -- the status of a run that found no magic
 abbrev pub status_of : FrameFault → Status

@@ -1,6 +1,6 @@
 //! The last frame of a run.
 
-ghost use Rattle.std.specs.Prelude.{◌≡◌, ◌≤◌, []};
+ghost use Rattle.std.specs.Prelude.{◌≡◌, ◌≢◌, ◌≤◌, []};
 ghost use Rattle.bluesky.specs.Run.{GaveEnding};
 ghost use Rattle.bluesky.specs.Stop.{Finishes};
 
@@ -24,6 +24,24 @@ pub fn end_with<K: Sink>(sink: &mut K, status: Status) -> Status
     status
 }
 
+/// Ends a run whose opening failed with this status: writes the last frame, unless the sink was what failed.
+pub fn end_unopened<K: Sink>(sink: &mut K, status: Status) -> Status
+    ensures status { result ≡ status }
+    ensures sunk { status ≡ Status.SinkFault → sink.new ≡ sink.old }
+    ensures gave { status ≢ Status.SinkFault → GaveEnding (record {
+      before = K.written sink.old;
+      after = K.written sink.new;
+      faults_before = K.faults sink.old;
+      faults_after = K.faults sink.new;
+    }) [] status }
+    ensures grows { K.faults sink.old ≤ K.faults sink.new }
+{
+    match status {
+        Status::SinkFault => status,
+        _ => end_with(sink, status),
+    }
+}
+
 /// Ends a run that stops at this place of the recording.
 pub fn finish<K: Sink>(sink: &mut K, stop: Stop, place: u64) -> Status
     ensures finishes { Finishes stop place result (record {
@@ -43,6 +61,7 @@ pub fn finish<K: Sink>(sink: &mut K, stop: Stop, place: u64) -> Status
         Stop::Early => end_with(sink, Status::Early),
         Stop::SourceFault => end_with(sink, Status::SourceFault),
         Stop::SinkFault => Status::SinkFault,
+        Stop::JournalFault => end_with(sink, Status::JournalFault),
         Stop::Memory => end_with(sink, Status::Memory),
     }
 }

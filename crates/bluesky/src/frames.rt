@@ -3,18 +3,19 @@
 ghost use Rattle.std.specs.Prelude.{◌≡◌, ◌≢◌, false, ℕ, List, [], length, Option, IfOk, IfErr, IsErrOf, OnOk};
 ghost use Rattle.std.specs.Bool.{OnTrue, OnFalse};
 ghost use Rattle.sky_outside.specs.Count.{Counts};
-ghost use Rattle.sky_outside.specs.Told.{Had, Given};
+ghost use Rattle.sky_outside.specs.Told.{Had};
 ghost use Rattle.sky_script.specs.Frame as frames;
-ghost use Rattle.sky_script.specs.Frame.{InFrame, IsInFrame, in_frame, magic};
+ghost use Rattle.sky_script.specs.Frame.{InFrame, IsInFrame, in_frame};
 ghost use Rattle.sky_script.specs.Values.{frame_of};
+ghost use Rattle.sky_world.specs.Carried.{IsServing};
 ghost use Rattle.sky_world.specs.Meaning.{start, IsStep};
 ghost use Rattle.sky_world.specs.World.{Stands, Stepped};
-ghost use Rattle.bluesky.specs.Run.{Ran, IsReplayed, SinkCounts, session_bytes};
-ghost use Rattle.bluesky.specs.Stop.{stop_of, StoppedBy};
+ghost use Rattle.bluesky.specs.Run.{IsReplayed, SinkCounts, journal_on};
+ghost use Rattle.bluesky.specs.Stop.{stop_of, StoppedBy, RanBehind};
 
 use crate::ending::{end_with, finish};
 use sky_base::Status;
-use sky_outside::{Sink, Source};
+use sky_outside::{Sink, Site, Source};
 use sky_script::{Frame, FrameBuf, FrameFault, read_frame};
 use sky_world::World;
 use std::alloc::Global;
@@ -35,6 +36,8 @@ pub enum Stop {
     SourceFault,
     /// A write failed.
     SinkFault,
+    /// A call of the journal's disk failed.
+    JournalFault,
     /// There was no memory for a session.
     Memory,
 }
@@ -59,47 +62,60 @@ fn is_end(frame: &Frame<'_>) -> bool
     matches!(frame, Frame::End)
 }
 
-/// Does one frame, and writes its answers. It stops where there is no memory, or a write fails.
-fn do_frame<K: Sink>(
+/// Does one frame, and writes its answers. It stops where there is no memory, or a write or a call of the disk fails.
+fn do_frame<K: Sink, P: Site>(
     alloc: Global,
     frame: &Frame<'_>,
     world: &mut World,
     sink: &mut K,
+    site: &mut P,
 ) -> Result<(), Stop>
     requires formed { IsInFrame (frame_of frame.now) }
     requires step { IsStep (frame_of frame.now) }
     requires going { world.old.ended ≡ false }
-    ensures ok { OnOk result (Stepped world.old (frame_of frame.now) world.new
-        (K.written sink.old) (K.written sink.new)) }
+    requires serving { IsServing P.Storage world.old.service site.old }
+    ensures ok { OnOk result (Stepped P.Storage world.old site.old (frame_of frame.now) world.new site.new
+        (record { before = K.written sink.old; after = K.written sink.new })) }
     ensures going { OnOk result (world.new.ended ≡ false) }
+    ensures serving { OnOk result (IsServing P.Storage world.new.service site.new) }
     ensures stopped { IfErr result (λ stop. (had left : Option (List ℕ)) → Had had left (in_frame (frame_of frame.now))
-        → StoppedBy stop world.old had left (K.written sink.old) (K.written sink.new)) }
+        → StoppedBy P.Storage stop world.old site.old site.new (record { had = had; left = left })
+        (record { before = K.written sink.old; after = K.written sink.new })) }
     ensures source { IsErrOf result Stop.SourceFault → ⊥ }
+    ensures size { P.bytes_of site.new ≡ P.bytes_of site.old }
+    ensures journal_cause { Counts (P.disk_faults site.old) (P.disk_faults site.new) (IsErrOf result Stop.JournalFault) }
     ensures cause { Counts (K.faults sink.old) (K.faults sink.new) (IsErrOf result Stop.SinkFault) }
 {
-    match world.step(alloc, frame, sink) {
+    match world.step(alloc, frame, site, sink) {
         Ok(()) => Ok(()),
         Err(Status::Memory) => Err(Stop::Memory),
+        Err(Status::JournalFault) => Err(Stop::JournalFault),
         Err(_) => Err(Stop::SinkFault),
     }
 }
 
 /// Reads the next frame and does it, and says how many bytes it takes.
-fn next_frame<S: Source, K: Sink>(
+fn next_frame<S: Source, K: Sink, P: Site>(
     alloc: Global,
     source: &mut S,
     sink: &mut K,
+    site: &mut P,
     buf: &mut FrameBuf,
     world: &mut World,
 ) -> Result<u64, Stop>
     requires going { world.old.ended ≡ false }
+    requires serving { IsServing P.Storage world.old.service site.old }
     ensures ok { IfOk result (λ len. (f : InFrame) × IsInFrame f × (len ≡ length (in_frame f))
         × Had (S.left source.old) (S.left source.new) (in_frame f)
-        × Stepped world.old f world.new (K.written sink.old) (K.written sink.new)) }
+        × Stepped P.Storage world.old site.old f world.new site.new (record { before = K.written sink.old; after = K.written sink.new })) }
     ensures going { OnOk result (world.new.ended ≡ false) }
-    ensures stopped { IfErr result (λ stop. StoppedBy stop world.old
-        (S.left source.old) (S.left source.new) (K.written sink.old) (K.written sink.new)) }
+    ensures serving { OnOk result (IsServing P.Storage world.new.service site.new) }
+    ensures stopped { IfErr result (λ stop. StoppedBy P.Storage stop world.old site.old site.new
+        (record { had = S.left source.old; left = S.left source.new })
+        (record { before = K.written sink.old; after = K.written sink.new })) }
+    ensures size { P.bytes_of site.new ≡ P.bytes_of site.old }
     ensures source_cause { Counts (S.faults source.old) (S.faults source.new) (IsErrOf result Stop.SourceFault) }
+    ensures journal_cause { Counts (P.disk_faults site.old) (P.disk_faults site.new) (IsErrOf result Stop.JournalFault) }
     ensures sink_cause { Counts (K.faults sink.old) (K.faults sink.new) (IsErrOf result Stop.SinkFault) }
 {
     let frame = read_frame(source, buf)?;
@@ -107,36 +123,41 @@ fn next_frame<S: Source, K: Sink>(
     if is_end(&frame) {
         return Err(Stop::End);
     }
-    do_frame(alloc, &frame, world, sink)?;
+    do_frame(alloc, &frame, world, sink, site)?;
     Ok(length)
 }
 
-/// Handles frame after frame, from the state of an opening, of a recording whose magic was read.
-pub fn handle_frames<S: Source, K: Sink>(
+/// Handles frame after frame, from the state of an opening, of a recording whose magic was read. The site is the one over which
+/// the world was opened.
+pub fn handle_frames<S: Source, K: Sink, P: Site>(
     alloc: Global,
     source: &mut S,
     sink: &mut K,
+    site: &mut P,
     buf: &mut FrameBuf,
     mut world: World,
 ) -> Status
-    requires opened { Stands world start }
+    requires opened { Stands P.Storage world site.old (start (journal_on (P.bytes_of site.old))) }
     requires going { world.ended ≡ false }
-    ensures ran { (had before : Option (List ℕ)) → Had had (S.left source.old) magic
-        → Given before (K.written sink.old) (session_bytes [])
-        → Ran result (record { had = had; left = S.left source.new })
+    requires serving { IsServing P.Storage world.service site.old }
+    ensures ran { RanBehind P.Storage site.old site.new result
+        (record { had = S.left source.old; left = S.left source.new })
         (record {
-          before = before;
+          before = K.written sink.old;
           after = K.written sink.new;
           faults_before = K.faults sink.old;
           faults_after = K.faults sink.new;
         }) }
     ensures replayed { IsReplayed result }
+    ensures opened { (at : ℕ) → result ≢ Status.Foreign at }
+    ensures size { P.bytes_of site.new ≡ P.bytes_of site.old }
     ensures source_cause { Counts (S.faults source.old) (S.faults source.new) (result ≡ Status.SourceFault) }
+    ensures journal_cause { Counts (P.disk_faults site.old) (P.disk_faults site.new) (result ≡ Status.JournalFault) }
     ensures sink_cause { SinkCounts (K.faults sink.old) (K.faults sink.new) result }
 {
     let mut place = 8;
     for _ in 0..FRAME_LIMIT {
-        match next_frame(alloc, source, sink, buf, &mut world) {
+        match next_frame(alloc, source, sink, site, buf, &mut world) {
             Ok(length) => place += length,
             Err(stop) => return finish(sink, stop, place),
         }

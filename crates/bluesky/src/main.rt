@@ -17,9 +17,9 @@ mod stdio;
 mod words;
 
 pub use infallible::run_infallible;
-pub use laws::each_recording_has_one_reading;
+pub use laws::{a_disk_of_zeros_is_blank, each_recording_has_one_reading};
 pub use run::run;
-use sky_base::Status;
+use sky_base::{NoMemory, Status};
 use sky_memory::SureSite;
 use std::alloc::Global;
 use std::env::Args;
@@ -31,6 +31,9 @@ pub use stdio::{StdinSource, StdoutSink};
 
 #[cfg(test)]
 mod tests;
+
+/// The bytes of the journal's disk: two areas, each of 2^26 bytes, the size where the settings say nothing.
+const DISK_BYTES: u64 = 2 << 26;
 
 /// What stands behind the program's name.
 fn without_name(mut args: Vec<String>) -> Vec<String>
@@ -71,12 +74,17 @@ fn settings() -> &'static [u8]
     &[]
 }
 
-/// Runs the command that the words say, over standard input and output.
+/// A site in memory, with a disk of so many bytes, each of them zero.
+fn blank_site(alloc: Global, bytes: u64) -> Result<SureSite, NoMemory> {
+    SureSite::new(alloc, bytes)
+}
+
+/// Runs the command that the words say, over standard input and output. For now the site is in memory, and ends with the process.
 fn run_words(rt: &HostRuntime, alloc: Global, words: &[String]) -> Status
     ensures words { result ≡ Status.Words → IsReplay (map string_bytes words.now) → ⊥ }
     ensures settings { result ≢ Status.Settings }
 {
-    let Ok(mut site) = SureSite::new(alloc, 0) else {
+    let Ok(mut site) = blank_site(alloc, DISK_BYTES) else {
         return Status::Memory;
     };
     let Ok(input) = BufReader::new(alloc, rt.stdin()) else {

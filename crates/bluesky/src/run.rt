@@ -1,39 +1,54 @@
 //! The run of a recorded session, from its words to its status.
 
-ghost use Rattle.std.specs.Prelude.{◌≡◌, ◌<◌, ◌↔◌, ◌⊎◌, false, [], map, string_bytes, length, IfOk, IfErr, IsErrOf, OnOk};
+ghost use Rattle.std.specs.Prelude.{◌≡◌, ◌<◌, ◌↔◌, ◌⊎◌, ℕ, false, [], map, string_bytes, length, IfOk, IfErr, IsErrOf, OnOk};
 ghost use Rattle.sky_outside.specs.Count.{Counts};
+ghost use Rattle.sky_outside.specs.Moments.{NothingPending};
 ghost use Rattle.sky_outside.specs.Told.{WhereTold, Had, Given, GivenPart};
 ghost use Rattle.sky_script.specs.Frame.{magic};
+ghost use Rattle.sky_world.specs.Carried.{IsServing};
 ghost use Rattle.sky_world.specs.Meaning.{start};
+ghost use Rattle.sky_world.specs.Opening.{IsBlank, IsForeign, IsOfOpening, LeavesBlank};
 ghost use Rattle.sky_world.specs.World.{Stands};
 ghost use Rattle.bluesky.specs.Words.{IsReplay};
-ghost use Rattle.bluesky.specs.Run.{Ran, IsExact, IsReplayed, SinkCounts, session_bytes};
-ghost use Rattle.bluesky.specs.Stop.{NoMagic, status_of};
+ghost use Rattle.bluesky.specs.Run.{Ran, IsExact, IsReplayed, SinkCounts, area_size, journal_on, session_bytes, volume};
+ghost use Rattle.bluesky.specs.Stop.{NoMagic, Opened, status_of};
 
-use crate::ending::end_with;
+use crate::ending::{end_unopened, end_with};
 use crate::frames::handle_frames;
 use crate::words::are_replay;
 use sky_base::Status;
 use sky_outside::{Sink, Site, Source, fill, write_all};
 use sky_script::{FrameBuf, FrameFault};
+use sky_settings::Settings;
 use sky_world::World;
 use std::alloc::Global;
 
 /// What a recording begins with, and so does what is written.
 const MAGIC: [u8; 8] = *b"SKYREC1\n";
 
-/// Begins what is written: the magic, and behind it the frame of the opening.
+/// Begins what is written: the magic, and once the journal is open the frame of the opening.
 ///
-/// `Memory` where there was none for the buffers; the magic was written then. `SinkFault` where a
-/// write failed.
-fn open<K: Sink>(alloc: Global, sink: &mut K) -> Result<(FrameBuf, World), Status>
-    ensures world { IfOk result (λ opened. Stands opened.1 start) }
+/// `Memory` where there was none for the buffers, `JournalFault` where a call of the disk failed, and `Foreign` where the journal can't
+/// be opened; the magic was written then. `SinkFault` where a write failed.
+fn open<K: Sink, P: Site>(
+    alloc: Global,
+    sink: &mut K,
+    site: &mut P,
+) -> Result<(FrameBuf, World), Status>
+    requires settled { NothingPending P.Storage site.old }
+    ensures world { IfOk result (λ opened. Stands P.Storage opened.1 site.new (start (journal_on (P.bytes_of site.old)))) }
     ensures going { IfOk result (λ opened. opened.1.ended ≡ false) }
+    ensures serving { IfOk result (λ opened. IsServing P.Storage opened.1.service site.new) }
     ensures ok { OnOk result (Given (K.written sink.old) (K.written sink.new) (session_bytes [])) }
-    ensures memory { IsErrOf result Status.Memory → Given (K.written sink.old) (K.written sink.new) magic }
+    ensures opened { OnOk result (Opened P.Storage site.old site.new) }
+    ensures unopened { IfErr result (λ status. IsOfOpening status → Given (K.written sink.old) (K.written sink.new) magic) }
     ensures partly { IsErrOf result Status.SinkFault
         → GivenPart (K.written sink.old) (K.written sink.new) (session_bytes []) }
-    ensures statuses { IfErr result (λ status. (status ≡ Status.Memory) ⊎ (status ≡ Status.SinkFault)) }
+    ensures any_moment { LeavesBlank P.Storage volume area_size site.old site.new }
+    ensures foreign { (at : ℕ) → IsErrOf result (Status.Foreign at) → WhereTold (P.image site.old) (IsForeign volume area_size at) }
+    ensures statuses { IfErr result (λ status. IsOfOpening status ⊎ (status ≡ Status.SinkFault)) }
+    ensures size { P.bytes_of site.new ≡ P.bytes_of site.old }
+    ensures journal_cause { Counts (P.disk_faults site.old) (P.disk_faults site.new) (IsErrOf result Status.JournalFault) }
     ensures cause { Counts (K.faults sink.old) (K.faults sink.new) (IsErrOf result Status.SinkFault) }
 {
     if write_all(sink, &MAGIC).is_err() {
@@ -42,7 +57,7 @@ fn open<K: Sink>(alloc: Global, sink: &mut K) -> Result<(FrameBuf, World), Statu
     let Ok(buf) = FrameBuf::new(alloc) else {
         return Err(Status::Memory);
     };
-    let world = World::start(alloc, sink)?;
+    let world = World::start(alloc, site, sink, Settings::new())?;
     Ok((buf, world))
 }
 
@@ -75,9 +90,15 @@ fn magic_status(fault: FrameFault) -> Status
     }
 }
 
-/// Replays a recording: reads it from the source, and writes to the sink what it means.
-fn replay<S: Source, K: Sink>(alloc: Global, source: &mut S, sink: &mut K) -> Status
-    ensures ran { Ran result
+/// Replays a recording: opens the journal, reads the recording from the source, and writes to the sink what it means.
+fn replay<S: Source, K: Sink, P: Site>(
+    alloc: Global,
+    source: &mut S,
+    sink: &mut K,
+    site: &mut P,
+) -> Status
+    requires settled { NothingPending P.Storage site.old }
+    ensures ran { Ran P.Storage site.old site.new result
         (record { had = S.left source.old; left = S.left source.new })
         (record {
           before = K.written sink.old;
@@ -86,26 +107,31 @@ fn replay<S: Source, K: Sink>(alloc: Global, source: &mut S, sink: &mut K) -> St
           faults_after = K.faults sink.new;
         }) }
     ensures replayed { IsReplayed result }
+    ensures foreign { (at : ℕ) → result ≡ Status.Foreign at → WhereTold (P.image site.old) (IsForeign volume area_size at) }
+    ensures size { P.bytes_of site.new ≡ P.bytes_of site.old }
     ensures source_cause { Counts (S.faults source.old) (S.faults source.new) (result ≡ Status.SourceFault) }
+    ensures journal_cause { Counts (P.disk_faults site.old) (P.disk_faults site.new) (result ≡ Status.JournalFault) }
     ensures sink_cause { SinkCounts (K.faults sink.old) (K.faults sink.new) result }
 {
-    let (mut buf, world) = match open(alloc, sink) {
+    let (mut buf, world) = match open(alloc, sink, site) {
         Ok(opened) => opened,
-        Err(Status::Memory) => return end_with(sink, Status::Memory),
-        Err(_) => return Status::SinkFault,
+        Err(status) => return end_unopened(sink, status),
     };
     match read_magic(source) {
-        Ok(()) => handle_frames(alloc, source, sink, &mut buf, world),
+        Ok(()) => handle_frames(alloc, source, sink, site, &mut buf, world),
         Err(fault) => end_with(sink, magic_status(fault)),
     }
 }
 
 /// Runs the command that the words say, `replay --journal PATH --cloud PATH`, over these devices, and
-/// says how it ended. For now the settings are an empty text, and the site is left alone.
+/// says how it ended. For now the settings are an empty text, the journal is one that is blank, and the cloud is left alone.
 ///
-/// It writes the magic and the frame of the opening, reads a recorded session from the source, and
-/// writes the answers to its frames, and at its end a frame that says how it ended. What comes is in
-/// the docs of `Status`; if it refuses the words or the settings, it reads and writes nothing.
+/// It writes the magic, opens the journal on the site's disk, and writes the frame of the opening. Then it reads a recorded session from
+/// the source, and writes the answers to its frames, and at its end a frame that says how it ended. A change goes through the journal, and
+/// one that is to be stable is on the disk before its answer is written. What comes is in the docs of `Status`; if it refuses the
+/// words or the settings, it reads and writes nothing.
+///
+/// When it begins, nothing that was written to the disk may wait for a sync.
 pub fn run<S: Source, K: Sink, P: Site>(
     alloc: Global,
     words: &[String],
@@ -114,15 +140,19 @@ pub fn run<S: Source, K: Sink, P: Site>(
     sink: &mut K,
     site: &mut P,
 ) -> Status
+    requires settled { NothingPending P.Storage site.old }
+
     // The words and the settings are judged first, and nothing else is done where they are refused.
     ensures words { (result ≡ Status.Words) ↔ (IsReplay (map string_bytes words.now) → ⊥) }
     ensures settings { (result ≡ Status.Settings)
         ↔ (IsReplay (map string_bytes words.now) × (0 < length settings.now)) }
     ensures source_untouched { (IsReplayed result → ⊥) → source.new ≡ source.old }
     ensures sink_untouched { (IsReplayed result → ⊥) → sink.new ≡ sink.old }
+    ensures site_untouched { (IsReplayed result → ⊥) → site.new ≡ site.old }
 
-    // What was read, and what was written, by the status: the meaning of the frames that were handled.
-    ensures ran { Ran result
+    // What was read, what was written, and what a crash leaves of the journal, by the status: the meaning of the frames that were
+    // handled.
+    ensures ran { Ran P.Storage site.old site.new result
         (record { had = S.left source.old; left = S.left source.new })
         (record {
           before = K.written sink.old;
@@ -131,14 +161,19 @@ pub fn run<S: Source, K: Sink, P: Site>(
           faults_after = K.faults sink.new;
         }) }
 
+    // A journal that is refused can't be opened, as it stood when the run began; and one that is blank is not refused.
+    ensures foreign { (at : ℕ) → result ≡ Status.Foreign at → WhereTold (P.image site.old) (IsForeign volume area_size at) }
+    ensures blank { (at : ℕ) → result ≡ Status.Foreign at → WhereTold (P.image site.old) (λ image. IsBlank area_size image → ⊥) }
+
     // Each other status is the one that the bytes of the source ask for.
     ensures exact { IsReplayed result → WhereTold (S.left source.old) (IsExact result) }
 
     // A device is blamed only where it failed in this run.
     ensures source_cause { Counts (S.faults source.old) (S.faults source.new) (result ≡ Status.SourceFault) }
+    ensures journal_cause { Counts (P.disk_faults site.old) (P.disk_faults site.new) (result ≡ Status.JournalFault) }
     ensures sink_cause { SinkCounts (K.faults sink.old) (K.faults sink.new) result }
 
-    ensures site { site.new ≡ site.old }
+    ensures size { P.bytes_of site.new ≡ P.bytes_of site.old }
 {
     if !are_replay(words) {
         return Status::Words;
@@ -146,5 +181,5 @@ pub fn run<S: Source, K: Sink, P: Site>(
     if !settings.is_empty() {
         return Status::Settings;
     }
-    replay(alloc, source, sink)
+    replay(alloc, source, sink, site)
 }

@@ -1,6 +1,9 @@
+ghost use Rattle.std.specs.Prelude.{IfOk};
+ghost use Rattle.sky_outside.specs.Moments.{NothingPending};
+
 use super::*;
-use sky_memory::{MemSink, MemSource};
-use sky_outside::{Failed, Source};
+use sky_memory::{Fail as FailingCall, MemSink, MemSite, MemSource};
+use sky_outside::{Disk, Failed, Site, Source, Storage};
 use std::process::Abort;
 use std::test::Fail;
 
@@ -72,31 +75,56 @@ fn source_of(alloc: Global, bytes: &[u8], fail: &[u64]) -> Result<MemSource, Fai
     ))
 }
 
-/// Replays a source into a sink whose calls of these numbers fail, and hands the sink back.
-fn replay<S: Source>(
+/// A blank disk with room for a journal.
+fn new_site(alloc: Global) -> Result<SureSite, Fail> {
+    match blank_site(alloc, DISK_BYTES) {
+        Ok(site) => Ok(site),
+        Err(_) => Err("no memory".into()),
+    }
+}
+
+/// Replays a source over a site, into a sink whose calls of these numbers fail, and hands the sink back.
+fn replay_over<S: Source, P: Site>(
     alloc: Global,
     source: &mut S,
+    site: &mut P,
     fail: &[u64],
-) -> Result<(Status, MemSink), Fail> {
+) -> Result<(Status, MemSink), Fail>
+    requires { NothingPending P.Storage site.old }
+{
     let words = words_of_texts(alloc, &["replay", "--journal", "j", "--cloud", "c"])?;
     let fail = Vec::from_slice(alloc, fail)?;
     let mut sink = MemSink::new(alloc, 200_000, fail).map_err(|_| "no memory")?;
-    let mut site = SureSite::new(alloc, 0).map_err(|_| "no memory")?;
-    let status = run(alloc, &words, &[], source, &mut sink, &mut site);
+    let status = run(alloc, &words, &[], source, &mut sink, site);
     Ok((status, sink))
+}
+
+/// Does so over a site whose journal is made blank first: the gate of its first area is closed.
+fn replay<S: Source>(
+    alloc: Global,
+    source: &mut S,
+    site: &mut SureSite,
+    fail: &[u64],
+) -> Result<(Status, MemSink), Fail> {
+    if site.size() == 0 {
+        return Err("no disk".into());
+    }
+    site.write_at(0, &[0]).map_err(|_| "not wiped")?;
+    replay_over(alloc, source, site, fail)
 }
 
 /// That these frames and the end are answered so.
 fn answers(
     rt: &impl Abort,
     alloc: Global,
+    site: &mut SureSite,
     frames: &[Parts<'_>],
     wanted: &[Parts<'_>],
 ) -> Result<(), Fail> {
     let mut bytes = recording(alloc, frames)?;
     put_frame(&mut bytes, (99, 0, &[]))?;
     let mut source = source_of(alloc, &bytes, &[])?;
-    let (status, sink) = replay(alloc, &mut source, &[])?;
+    let (status, sink) = replay(alloc, &mut source, site, &[])?;
     assert_eq!(rt; status, Status::Done, "of {frames:?}");
     let written = written(alloc, wanted, 0, 0)?;
     assert_eq!(rt; sink.bytes(), written.as_slice(), "of {frames:?}");
@@ -106,20 +134,29 @@ fn answers(
 #[test]
 fn sessions_are_answered(rt: HostRuntime) -> Result<(), Fail> {
     let alloc = rt.alloc();
+    let mut site = new_site(alloc)?;
     let whole = NULL.as_slice();
     let reply = REPLY.as_slice();
-    answers(&rt, alloc, &[(1, 0, &[]), (2, 0, whole)], &[(2, 0, reply)])?;
     answers(
         &rt,
         alloc,
+        &mut site,
+        &[(1, 0, &[]), (2, 0, whole)],
+        &[(2, 0, reply)],
+    )?;
+    answers(
+        &rt,
+        alloc,
+        &mut site,
         &[(1, 255, &[]), (2, 255, whole)],
         &[(2, 255, reply)],
     )?;
     // Before it begins, a session is passed over, and so is its end.
-    answers(&rt, alloc, &[(2, 0, whole), (3, 0, &[])], &[])?;
+    answers(&rt, alloc, &mut site, &[(2, 0, whole), (3, 0, &[])], &[])?;
     answers(
         &rt,
         alloc,
+        &mut site,
         &[(3, 0, &[]), (1, 0, &[]), (2, 0, whole)],
         &[(2, 0, reply)],
     )?;
@@ -127,6 +164,7 @@ fn sessions_are_answered(rt: HostRuntime) -> Result<(), Fail> {
     answers(
         &rt,
         alloc,
+        &mut site,
         &[
             (1, 0, &[]),
             (2, 0, &whole[..20]),
@@ -139,6 +177,7 @@ fn sessions_are_answered(rt: HostRuntime) -> Result<(), Fail> {
     answers(
         &rt,
         alloc,
+        &mut site,
         &[
             (1, 0, &[]),
             (3, 0, &[]),
@@ -154,25 +193,28 @@ fn sessions_are_answered(rt: HostRuntime) -> Result<(), Fail> {
         answers(
             &rt,
             alloc,
+            &mut site,
             &[(1, 7, &[]), (2, 7, record), (2, 7, whole), (3, 7, &[])],
             &[(3, 7, &[])],
         )?;
         answers(
             &rt,
             alloc,
+            &mut site,
             &[(1, 7, &[]), (2, 7, record), (1, 7, &[]), (2, 7, whole)],
             &[(3, 7, &[]), (2, 7, reply)],
         )?;
     }
     // A moment has no answer.
     let moment = [0, 0, 0, 7, 0x3b, 0x9a, 0xc9, 0xff];
-    answers(&rt, alloc, &[(4, 0, &moment)], &[])
+    answers(&rt, alloc, &mut site, &[(4, 0, &moment)], &[])
 }
 
 /// A NULL call in which one byte differs, and the words of the reply to it behind its number.
 fn refused(
     rt: &impl Abort,
     alloc: Global,
+    site: &mut SureSite,
     at: usize,
     byte: u8,
     words: [u8; 5],
@@ -188,6 +230,7 @@ fn refused(
     answers(
         rt,
         alloc,
+        site,
         &[(1, 0, &[]), (2, 0, &record)],
         &[(2, 0, &reply)],
     )
@@ -196,16 +239,18 @@ fn refused(
 #[test]
 fn calls_are_refused(rt: HostRuntime) -> Result<(), Fail> {
     let alloc = rt.alloc();
+    let mut site = new_site(alloc)?;
     // Version 3 of RPC, the program 100000, version 4 of NFS, and the procedure 22.
-    refused(&rt, alloc, 15, 3, [1, 1, 0, 2, 2])?;
-    refused(&rt, alloc, 19, 0xa0, [1, 0, 0, 0, 1])?;
-    refused(&rt, alloc, 27, 22, [1, 0, 0, 0, 3])
+    refused(&rt, alloc, &mut site, 15, 3, [1, 1, 0, 2, 2])?;
+    refused(&rt, alloc, &mut site, 19, 0xa0, [1, 0, 0, 0, 1])?;
+    refused(&rt, alloc, &mut site, 27, 22, [1, 0, 0, 0, 3])
 }
 
 /// One byte a frame, alternating between two sessions.
 #[test]
 fn streams_are_cut_anywhere(rt: HostRuntime) -> Result<(), Fail> {
     let alloc = rt.alloc();
+    let mut site = new_site(alloc)?;
     let mut bytes = recording(alloc, &[(1, 0, &[]), (1, 1, &[])])?;
     for byte in &NULL {
         put_frame(&mut bytes, (2, 0, &[*byte]))?;
@@ -213,7 +258,7 @@ fn streams_are_cut_anywhere(rt: HostRuntime) -> Result<(), Fail> {
     }
     put_frame(&mut bytes, (99, 0, &[]))?;
     let mut source = source_of(alloc, &bytes, &[])?;
-    let (status, sink) = replay(alloc, &mut source, &[])?;
+    let (status, sink) = replay(alloc, &mut source, &mut site, &[])?;
     assert_eq!(rt; status, Status::Done);
     let wanted = written(alloc, &[(2, 0, &REPLY), (2, 1, &REPLY)], 0, 0)?;
     assert_eq!(rt; sink.bytes(), wanted.as_slice());
@@ -223,15 +268,22 @@ fn streams_are_cut_anywhere(rt: HostRuntime) -> Result<(), Fail> {
     answers(
         &rt,
         alloc,
+        &mut site,
         &[(1, 0, &[]), (2, 0, &stream)],
         &[(2, 0, &REPLY)],
     )
 }
 
 /// How a recording of these bytes ends. Without answers, 58 bytes are written.
-fn ends(rt: &impl Abort, alloc: Global, bytes: &[u8], status: Status) -> Result<(), Fail> {
+fn ends(
+    rt: &impl Abort,
+    alloc: Global,
+    site: &mut SureSite,
+    bytes: &[u8],
+    status: Status,
+) -> Result<(), Fail> {
     let mut source = source_of(alloc, bytes, &[])?;
-    let (ended, sink) = replay(alloc, &mut source, &[])?;
+    let (ended, sink) = replay(alloc, &mut source, site, &[])?;
     assert_eq!(rt; ended, status, "of {bytes:?}");
     assert_eq!(rt; sink.bytes().len(), 58, "of {bytes:?}");
     Ok(())
@@ -240,37 +292,84 @@ fn ends(rt: &impl Abort, alloc: Global, bytes: &[u8], status: Status) -> Result<
 #[test]
 fn recordings_end(rt: HostRuntime) -> Result<(), Fail> {
     let alloc = rt.alloc();
+    let mut site = new_site(alloc)?;
     let at_first = Status::Malformed { at: 8 };
-    ends(&rt, alloc, &[], Status::Early)?;
-    ends(&rt, alloc, b"SKYREC1", Status::Early)?;
-    ends(&rt, alloc, b"TKYREC1\n", Status::Malformed { at: 0 })?;
-    ends(&rt, alloc, b"SKYREC1\n\x63\0\0\0\0\0\0\0", Status::Early)?;
-    ends(&rt, alloc, b"SKYREC1\n\x63\0\0\0\0\0\0\0\0", Status::Done)?;
-    // The end is read, and what follows it isn't.
-    ends(&rt, alloc, b"SKYREC1\n\x63\0\0\0\0\0\0\0\0M", Status::Done)?;
-    ends(&rt, alloc, b"SKYREC1\n\x4d\0\0\0\0\0\0\0\0", at_first)?;
-    // Session 256, a frame of 2^20 + 1 bytes, and 10^9 nanoseconds.
-    ends(&rt, alloc, b"SKYREC1\n\x01\0\0\x01\0\0\0\0\0", at_first)?;
-    ends(&rt, alloc, b"SKYREC1\n\x02\0\0\0\0\0\x10\0\x01", at_first)?;
+    ends(&rt, alloc, &mut site, &[], Status::Early)?;
+    ends(&rt, alloc, &mut site, b"SKYREC1", Status::Early)?;
     ends(
         &rt,
         alloc,
+        &mut site,
+        b"TKYREC1\n",
+        Status::Malformed { at: 0 },
+    )?;
+    ends(
+        &rt,
+        alloc,
+        &mut site,
+        b"SKYREC1\n\x63\0\0\0\0\0\0\0",
+        Status::Early,
+    )?;
+    ends(
+        &rt,
+        alloc,
+        &mut site,
+        b"SKYREC1\n\x63\0\0\0\0\0\0\0\0",
+        Status::Done,
+    )?;
+    // The end is read, and what follows it isn't.
+    ends(
+        &rt,
+        alloc,
+        &mut site,
+        b"SKYREC1\n\x63\0\0\0\0\0\0\0\0M",
+        Status::Done,
+    )?;
+    ends(
+        &rt,
+        alloc,
+        &mut site,
+        b"SKYREC1\n\x4d\0\0\0\0\0\0\0\0",
+        at_first,
+    )?;
+    // Session 256, a frame of 2^20 + 1 bytes, and 10^9 nanoseconds.
+    ends(
+        &rt,
+        alloc,
+        &mut site,
+        b"SKYREC1\n\x01\0\0\x01\0\0\0\0\0",
+        at_first,
+    )?;
+    ends(
+        &rt,
+        alloc,
+        &mut site,
+        b"SKYREC1\n\x02\0\0\0\0\0\x10\0\x01",
+        at_first,
+    )?;
+    ends(
+        &rt,
+        alloc,
+        &mut site,
         b"SKYREC1\n\x04\0\0\0\0\0\0\0\x08\0\0\0\0\x3b\x9a\xca\0",
         at_first,
     )?;
     ends(
         &rt,
         alloc,
+        &mut site,
         b"SKYREC1\n\x01\0\0\0\0\0\0\0\0\x02\0\0\0\0\0\0\0\x02M",
         Status::Early,
     )?;
     ends(
         &rt,
         alloc,
+        &mut site,
         b"SKYREC1\n\x01\0\0\0\0\0\0\0\0M\0\0\0\0\0\0\0\0",
         Status::Malformed { at: 17 },
     )?;
     each_recording_has_one_reading();
+    a_disk_of_zeros_is_blank();
     Ok(())
 }
 
@@ -279,6 +378,7 @@ fn recordings_end(rt: HostRuntime) -> Result<(), Fail> {
 fn fails(
     rt: &impl Abort,
     alloc: Global,
+    site: &mut SureSite,
     reads: &[u64],
     writes: &[u64],
     status: Status,
@@ -287,7 +387,7 @@ fn fails(
     let bytes = recording(alloc, &[(1, 0, &[]), (2, 0, &NULL), (99, 0, &[])])?;
     let whole = written(alloc, &[(2, 0, &REPLY)], 0, 0)?;
     let mut source = source_of(alloc, &bytes, reads)?;
-    let (ended, sink) = replay(alloc, &mut source, writes)?;
+    let (ended, sink) = replay(alloc, &mut source, site, writes)?;
     assert_eq!(rt; ended, status, "at {reads:?} {writes:?}");
     let prefix = sink.bytes().len().saturating_sub(behind);
     assert!(rt;
@@ -300,14 +400,39 @@ fn fails(
 
 #[test]
 fn each_call_of_a_device_fails_once(rt: HostRuntime) -> Result<(), Fail> {
+    let mut site = new_site(rt.alloc())?;
     for read in 0..5 {
-        fails(&rt, rt.alloc(), &[read], &[], Status::SourceFault, 21)?;
+        fails(
+            &rt,
+            rt.alloc(),
+            &mut site,
+            &[read],
+            &[],
+            Status::SourceFault,
+            21,
+        )?;
     }
     for write in 0..6 {
-        fails(&rt, rt.alloc(), &[], &[write], Status::SinkFault, 0)?;
+        fails(
+            &rt,
+            rt.alloc(),
+            &mut site,
+            &[],
+            &[write],
+            Status::SinkFault,
+            0,
+        )?;
     }
     // Where the last frame of a failed run can't be written either, the status stays.
-    fails(&rt, rt.alloc(), &[4], &[4], Status::SourceFault, 0)
+    fails(
+        &rt,
+        rt.alloc(),
+        &mut site,
+        &[4],
+        &[4],
+        Status::SourceFault,
+        0,
+    )
 }
 
 /// A source that gives one byte at a time.
@@ -330,11 +455,12 @@ impl Source for Trickle {
 #[test]
 fn bytes_come_one_at_a_time(rt: HostRuntime) -> Result<(), Fail> {
     let alloc = rt.alloc();
+    let mut site = new_site(alloc)?;
     let bytes = recording(alloc, &[(1, 0, &[]), (2, 0, &NULL), (99, 0, &[])])?;
     let mut source = Trickle {
         source: source_of(alloc, &bytes, &[])?,
     };
-    let (status, sink) = replay(alloc, &mut source, &[])?;
+    let (status, sink) = replay(alloc, &mut source, &mut site, &[])?;
     assert_eq!(rt; status, Status::Done);
     let wanted = written(alloc, &[(2, 0, &REPLY)], 0, 0)?;
     assert_eq!(rt; sink.bytes(), wanted.as_slice());
@@ -377,6 +503,65 @@ fn other_words_and_settings_are_refused(rt: HostRuntime) -> Result<(), Fail> {
     not_begun(&rt, alloc, &dashed, &[], words)?;
     not_begun(&rt, alloc, &capital, &[], words)?;
     not_begun(&rt, alloc, &more, &[], words)
+}
+
+/// That a run over this site ends so, before it opens a journal: it has written the magic and the end, with this status at this
+/// place.
+fn not_opened<P: Site>(
+    rt: &impl Abort,
+    alloc: Global,
+    site: &mut P,
+    status: Status,
+    end: [u8; 2],
+) -> Result<(), Fail>
+    requires { NothingPending P.Storage site.old }
+{
+    let mut source = source_of(alloc, b"SKYREC1\n\x63\0\0\0\0\0\0\0\0", &[])?;
+    let (ended, sink) = replay_over(alloc, &mut source, site, &[])?;
+    let [number, place] = end;
+    let mut wanted = Vec::from_slice(alloc, b"SKYREC1\n")?;
+    put_frame(
+        &mut wanted,
+        (99, 0, &[0, 0, 0, number, 0, 0, 0, 0, 0, 0, 0, place]),
+    )?;
+    assert_eq!(rt; ended, status);
+    assert_eq!(rt; sink.bytes(), wanted.as_slice());
+    Ok(())
+}
+
+#[test]
+fn only_a_blank_journal_is_opened(rt: HostRuntime) -> Result<(), Fail> {
+    let alloc = rt.alloc();
+    let mut small = SureSite::new(alloc, 100).map_err(|_| "no memory")?;
+    let too_small = Status::Foreign { at: 100 };
+    not_opened(&rt, alloc, &mut small, too_small, [9, 100])?;
+    // After a run an area is open.
+    let mut site = new_site(alloc)?;
+    ends(&rt, alloc, &mut site, b"SKYREC1", Status::Early)?;
+    let open = Status::Foreign { at: 0 };
+    not_opened(&rt, alloc, &mut site, open, [9, 0])
+}
+
+/// A blank disk of so many bytes, of which the call of this number fails.
+fn failing_site(alloc: Global, bytes: u64, call: u64) -> Result<MemSite, Fail>
+    ensures { IfOk result (λ site. NothingPending ⟦<MemSite as Storage>⟧ site) }
+{
+    let mut fail = Vec::new(alloc);
+    fail.push(FailingCall {
+        call,
+        happened: false,
+    })?;
+    match MemSite::new(alloc, bytes, Vec::new(alloc), 20, 4096, fail) {
+        Ok(site) => Ok(site),
+        Err(_) => Err("no memory".into()),
+    }
+}
+
+#[test]
+fn a_disk_fails_in_the_opening(rt: HostRuntime) -> Result<(), Fail> {
+    let alloc = rt.alloc();
+    let mut site = failing_site(alloc, DISK_BYTES, 0)?;
+    not_opened(&rt, alloc, &mut site, Status::JournalFault, [6, 0])
 }
 
 #[test]

@@ -226,6 +226,34 @@ static ROWS: [Row; 27] = [
     ),
 ];
 
+/// WRITE of `hello` at 0, UNSTABLE and FILE_SYNC; and COMMIT of a whole file.
+const UNSTABLE: Piece<'static> = (
+    b"\0\0\0\0\0\0\0\0\0\0\0\x05\0\0\0\0\0\0\0\x05hello\0\0\0",
+    1,
+);
+
+const FILE_SYNC: Piece<'static> = (
+    b"\0\0\0\0\0\0\0\0\0\0\0\x05\0\0\0\x02\0\0\0\x05hello\0\0\0",
+    1,
+);
+
+const WHOLE: Piece<'static> = (b"\0\0\0\0", 3);
+
+/// A procedure of NFS and its arguments; and behind it how many changes there are, and how many of them are stable.
+type Count = (u32, &'static [Piece<'static>], u64, u64);
+
+static COUNTS: [Count; 7] = [
+    (8, &[ROOT, A, UNCHECKED, KEEP], 1, 1),
+    (7, &[NODE_2, UNSTABLE], 2, 1),
+    (7, &[NODE_2, UNSTABLE], 3, 1),
+    (21, &[NODE_2, WHOLE], 3, 3),
+    (7, &[NODE_2, UNSTABLE], 4, 3),
+    // MKDIR of a name that is there is refused.
+    (9, &[ROOT, A, KEEP], 4, 3),
+    // What is stable makes all before it stable.
+    (7, &[NODE_2, FILE_SYNC], 5, 5),
+];
+
 /// These pieces, one after the other.
 fn joined(alloc: Global, pieces: &[Piece<'_>]) -> Result<Vec<u8>, Fail> {
     let mut bytes = Vec::new(alloc);
@@ -237,14 +265,13 @@ fn joined(alloc: Global, pieces: &[Piece<'_>]) -> Result<Vec<u8>, Fail> {
     Ok(bytes)
 }
 
-/// Adds the frame with a call by user 1000 (AUTH_SYS), which has the number 1.
-fn put_call(
+/// The record of a call by user 1000 (AUTH_SYS), which has the number 1.
+fn record_of(
     alloc: Global,
-    bytes: &mut Vec<u8>,
     program: u32,
     procedure: u32,
     args: &[Piece<'_>],
-) -> Result<(), Fail> {
+) -> Result<Vec<u8>, Fail> {
     let args = joined(alloc, args)?;
     let length = u32::try_from(args.len())?;
     let header = length.checked_add(0x8000_003c).ok_or("too long")?;
@@ -255,6 +282,18 @@ fn put_call(
         record.extend_from_slice(&word.to_be_bytes())?;
     }
     record.extend_from_slice(&args)?;
+    Ok(record)
+}
+
+/// Adds the frame with a call.
+fn put_call(
+    alloc: Global,
+    bytes: &mut Vec<u8>,
+    program: u32,
+    procedure: u32,
+    args: &[Piece<'_>],
+) -> Result<(), Fail> {
+    let record = record_of(alloc, program, procedure, args)?;
     put_frame(bytes, (2, 0, &record))
 }
 
@@ -262,7 +301,8 @@ fn put_call(
 fn replayed(alloc: Global, mut bytes: Vec<u8>) -> Result<Vec<u8>, Fail> {
     put_frame(&mut bytes, (99, 0, &[]))?;
     let mut source = source_of(alloc, &bytes, &[])?;
-    let (status, sink) = replay(alloc, &mut source, &[])?;
+    let mut site = new_site(alloc)?;
+    let (status, sink) = replay(alloc, &mut source, &mut site, &[])?;
     if status != Status::Done {
         return Err("not done".into());
     }
@@ -320,6 +360,58 @@ fn calls_are_answered_in_one_tree(rt: HostRuntime) -> Result<(), Fail> {
     for (_, _, wanted) in &ROWS {
         rest = answered(&rt, alloc, rest, *wanted)?;
     }
+    Ok(())
+}
+
+/// That the next frame has these numbers, and the first epoch. What follows it.
+fn counted<'a>(rt: &impl Abort, rest: &'a [u8], history: u64, mark: u64) -> Result<&'a [u8], Fail> {
+    let mut rest = rest
+        .strip_prefix(b"\x10\0\0\0\0\0\0\0\x40")
+        .ok_or("no numbers")?;
+    for wanted in [history, mark, 1, 0, 0, 0, 0, 0] {
+        let (number, next) = rest.split_first_chunk::<8>().ok_or("cut")?;
+        assert_eq!(rt; u64::from_be_bytes(*number), wanted, "of {history} {mark}");
+        rest = next;
+    }
+    Ok(rest)
+}
+
+#[test]
+fn what_is_stable_is_shown(rt: HostRuntime) -> Result<(), Fail> {
+    let alloc = rt.alloc();
+    let mut bytes = recording(alloc, &[(1, 0, &[]), (16, 0, &[])])?;
+    for (procedure, args, _, _) in &COUNTS {
+        put_call(alloc, &mut bytes, NFS, *procedure, args)?;
+        put_frame(&mut bytes, (16, 0, &[]))?;
+    }
+    let answers = replayed(alloc, bytes)?;
+    let mut rest = counted(&rt, &answers, 0, 0)?;
+    for (_, _, history, mark) in &COUNTS {
+        rest = reply(rest)?.1;
+        rest = counted(&rt, rest, *history, *mark)?;
+    }
+    Ok(())
+}
+
+/// Two calls in one frame: in the second a call of the disk fails, and the first is answered.
+#[test]
+fn a_disk_fails_in_a_change(rt: HostRuntime) -> Result<(), Fail> {
+    let alloc = rt.alloc();
+    let mut calls = record_of(alloc, NFS, 8, &[ROOT, A, UNCHECKED, KEEP])?;
+    calls.extend_from_slice(&record_of(alloc, NFS, 8, &[ROOT, B, UNCHECKED, KEEP])?)?;
+    let mut bytes = recording(alloc, &[(1, 0, &[]), (2, 0, &calls)])?;
+    put_frame(&mut bytes, (99, 0, &[]))?;
+    let mut source = source_of(alloc, &bytes, &[])?;
+    // The opening is two reads, and two writes with a sync each; so is a change, without the reads.
+    let mut site = failing_site(alloc, DISK_BYTES, 10)?;
+    let (status, sink) = replay_over(alloc, &mut source, &mut site, &[])?;
+    assert_eq!(rt; status, Status::JournalFault);
+    let (_, answers) = sink.bytes().split_at_checked(37).ok_or("no opening")?;
+    let rest = answered(&rt, alloc, answers, (0, 232, 4, &[SOME, NODE_2]))?;
+    assert_eq!(rt;
+        rest,
+        b"\x63\0\0\0\0\0\0\0\x0c\0\0\0\x06\0\0\0\0\0\0\0\0".as_slice()
+    );
     Ok(())
 }
 
