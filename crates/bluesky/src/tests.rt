@@ -478,7 +478,7 @@ fn not_begun(
     let words = words_of_texts(alloc, words)?;
     let mut source = source_of(alloc, b"SKYREC1\n", &[])?;
     let mut sink = MemSink::new(alloc, 1000, Vec::new(alloc)).map_err(|_| "no memory")?;
-    let mut site = SureSite::new(alloc, 0).map_err(|_| "no memory")?;
+    let mut site = blank_site(alloc, 0).map_err(|_| "no memory")?;
     let ended = run(alloc, &words, settings, &mut source, &mut sink, &mut site);
     assert_eq!(rt; ended, status, "of {words:?}");
     assert!(rt; sink.bytes().is_empty(), "of {words:?}");
@@ -532,7 +532,7 @@ fn not_opened<P: Site>(
 #[test]
 fn only_a_blank_journal_is_opened(rt: HostRuntime) -> Result<(), Fail> {
     let alloc = rt.alloc();
-    let mut small = SureSite::new(alloc, 100).map_err(|_| "no memory")?;
+    let mut small = blank_site(alloc, 100).map_err(|_| "no memory")?;
     let too_small = Status::Foreign { at: 100 };
     not_opened(&rt, alloc, &mut small, too_small, [9, 100])?;
     // After a run an area is open.
