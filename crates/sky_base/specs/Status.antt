@@ -1,7 +1,7 @@
 -- What the statuses of a run are to those who see numbers: the exit status and the session's last frame.
 use Rattle.std.specs.Prelude.{ℕ}
 use Rattle.sky_base.specs.declared.status.Status.{Status}
-use Rattle.sky_base.specs.declared.status.Status.TheVariants.{Done, Words, Malformed, Early, SourceFault, SinkFault, JournalFault, Memory, Foreign, Long, Settings}
+use Rattle.sky_base.specs.declared.status.Status.TheVariants.{Done, Words, Malformed, Early, SourceFault, SinkFault, JournalFault, CloudFault, Memory, Foreign, Missing, Damaged, Worn, Long, Settings}
 
 -- the number of a status
 abbrev pub number_of : Status → ℕ
@@ -12,8 +12,12 @@ number_of Early = 3
 number_of SourceFault = 4
 number_of SinkFault = 5
 number_of JournalFault = 6
+number_of CloudFault = 7
 number_of Memory = 8
 number_of (Foreign at) = 9
+number_of (Missing name) = 9
+number_of (Damaged name damage) = 9
+number_of Worn = 9
 number_of Long = 10
 number_of Settings = 11
 

@@ -3,6 +3,9 @@
 ghost use Rattle.std.specs.Prelude.{◌≡◌, ◌<◌};
 ghost use Rattle.sky_base.specs.Status.{number_of, place_of};
 
+use crate::object::SegName;
+use crate::place::Damage;
+
 /// How a run ends. The program exits with the status's number.
 #[derive(Clone, Copy, Debug, PartialEq, Eq)]
 pub enum Status {
@@ -23,6 +26,8 @@ pub enum Status {
     SinkFault,
     /// 6: a call of the journal's disk failed.
     JournalFault,
+    /// 7: a call of the cloud failed in an opening.
+    CloudFault,
     /// 8: there was no memory to begin with.
     Memory,
     /// 9: the journal's disk is not one that can be opened.
@@ -30,6 +35,17 @@ pub enum Status {
         /// Where: the place on the disk, in bytes from its start.
         at: u64,
     },
+    /// 9: an object of the cloud that an opening needs is not there.
+    Missing {
+        name: SegName,
+    },
+    /// 9: an object of the cloud that an opening needs is not of the format.
+    Damaged {
+        name: SegName,
+        damage: Damage,
+    },
+    /// 9: there is no further epoch: the next one would be 2^62.
+    Worn,
     /// 10: 2^32 frames were read, and none of them ended the session.
     Long,
     /// 11: the text of the settings is refused. Nothing is written.
@@ -50,8 +66,12 @@ impl Status {
             Status::SourceFault => 4,
             Status::SinkFault => 5,
             Status::JournalFault => 6,
+            Status::CloudFault => 7,
             Status::Memory => 8,
             Status::Foreign { at: _ } => 9,
+            Status::Missing { name: _ } => 9,
+            Status::Damaged { name: _, damage: _ } => 9,
+            Status::Worn => 9,
             Status::Long => 10,
             Status::Settings => 11,
         }

@@ -19,6 +19,13 @@ fn names_are_ordered_by_their_fields(rt: HostRuntime) {
 
 #[test]
 fn statuses_have_their_numbers(rt: HostRuntime) {
+    let name = SegName {
+        dir: Dir::Proxy,
+        run: 3,
+        seq: 4,
+        last: true,
+    };
+    let damage = Damage::Form { at: 5 };
     for (status, number, place) in [
         (Status::Done, 0, 0),
         (Status::Words, 1, 0),
@@ -27,8 +34,12 @@ fn statuses_have_their_numbers(rt: HostRuntime) {
         (Status::SourceFault, 4, 0),
         (Status::SinkFault, 5, 0),
         (Status::JournalFault, 6, 0),
+        (Status::CloudFault, 7, 0),
         (Status::Memory, 8, 0),
         (Status::Foreign { at: 16 }, 9, 16),
+        (Status::Missing { name }, 9, 0),
+        (Status::Damaged { name, damage }, 9, 0),
+        (Status::Worn, 9, 0),
         (Status::Long, 10, 0),
         (Status::Settings, 11, 0),
     ] {
