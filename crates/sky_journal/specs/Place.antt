@@ -1,5 +1,5 @@
 -- Places on a disk between the entries of its journal, and the entries that are left from one on.
-use Rattle.std.specs.Prelude.{◌≡◌, ℕ, ◌+◌, ◌<◌, ◌≤◌, Bool, true, false, List, [], ◌∷◌, ◌++◌, length, Option, Some, None}
+use Rattle.std.specs.Prelude.{◌≡◌, ℕ, ◌+◌, ◌-◌, ◌^◌, ◌<◌, ◌≤◌, min, if◌then◌else◌, Bool, true, false, List, [], ◌∷◌, ◌++◌, length, Option, Some, None}
 use Rattle.sky_outside.specs.Image.{bytes_at}
 use Rattle.sky_journal.specs.Text.{entries_in, numbered}
 use Rattle.sky_journal.specs.Laid.{joined, HasBatches, IsLaid}
@@ -79,3 +79,12 @@ pub record IsPast (j : JournalView) (image : List ℕ) (list : List (ℕ × List
   pub newer : List (List ℕ)
   pub newer_is : IsLaid j.volume j.size image j.newer newer
   pub listed : list ≡ numbered_in j.newer newer
+
+-- where on the disk an area begins, where one is open
+abbrev pub start_in : Option OpenArea → ℕ
+start_in None = 0
+start_in (Some a) = a.start
+
+-- where on the disk a place is, in bytes from its start
+abbrev pub position_of : JournalView → Place → ℕ
+position_of j place = min (start_in (if place.newer then j.newer else j.older) + place.at) (2 ^ 64 - 1)

@@ -7,7 +7,7 @@ ghost use Rattle.sky_outside.specs.Told.{WhereTold};
 ghost use Rattle.sky_journal.specs.Faults.{is_disk_failure};
 ghost use Rattle.sky_journal.specs.Journal.{entries, IsOpenArea, JournalView, StandsFor};
 ghost use Rattle.sky_journal.specs.Looking.{area_in, Shows, Went};
-ghost use Rattle.sky_journal.specs.Place.{GivesNext, IsAhead, IsBehindEntry, IsInBatch, IsPast, Left, LeftAt, LeftIn, LeftInBatch};
+ghost use Rattle.sky_journal.specs.Place.{GivesNext, IsAhead, IsBehindEntry, IsInBatch, IsPast, Left, LeftAt, LeftIn, LeftInBatch, position_of, start_in};
 ghost use Rattle.sky_journal.specs.declared.open_area.OpenArea.{OpenArea};
 ghost use Rattle.sky_journal.specs.declared.fault.NextFault.TheVariants.{DiskFault};
 
@@ -238,7 +238,25 @@ fn area_ahead(
     }
 }
 
+/// Where on the disk an area begins; 0 where none is open.
+fn start_or_zero(area: Option<OpenArea>) -> u64
+    ensures { result ≡ start_in area }
+{
+    match area {
+        Some(area) => area.start,
+        None => 0,
+    }
+}
+
 impl Journal {
+    /// Where on the disk a place is, in bytes from its start. Where the place's area is not open it counts from the disk's start.
+    pub fn position(&self, place: Place) -> u64
+        ensures { result ≡ position_of self.now place }
+    {
+        let area = if place.newer { self.newer } else { self.older };
+        start_or_zero(area).saturating_add(place.at)
+    }
+
     /// The place before the first entry on the disk.
     pub fn first(&self) -> Place
         ensures { (image : List ℕ) (older newer : List (List ℕ)) → StandsFor self.now image older newer
