@@ -103,6 +103,10 @@ module _ {S : Type 0} (g : Ghosts S) (s t : S) (had left before after : Option (
   ran_out status.SinkFault of same ending = absurd of
   ran_out status.Long of same ending = absurd of
   ran_out status.Settings of same ending = absurd of
+  ran_out status.CloudFault of same ending = absurd of
+  ran_out (status.Missing name) of same ending = absurd of
+  ran_out (status.Damaged name damage) of same ending = absurd of
+  ran_out status.Worn of same ending = absurd of
 
   -- the source doesn't begin with the magic
   pub ran_otherwise : (f : FrameFault) (v : Status) → v ≡ status_of f → NoMagic f had left → GaveEnding sink (session_bytes []) (status_of f) → Ran g s t v source sink

@@ -2,7 +2,7 @@
 use Rattle.std.proofs.Common.{◌≡◌, ◌⊎◌, ⊎_elim, ◌+◌, ◌<◌, ◌≤◌, ◌≢◌, inl, inr, ℕ, Option, Some, None, List, [], ◌∷◌, ◌++◌, length, refl, sym, ap, subst, ◌∙◌, append_assoc, arith}
 use Rattle.std.proofs.lemmas.List.{append_cancel_left, append-nil, length-append}
 use Rattle.sky_base.specs.declared.status.Status.{Status}
-use Rattle.sky_base.specs.declared.status.Status.TheVariants.{Done, Words, Malformed, Early, SourceFault, SinkFault, JournalFault, Memory, Foreign, Long, Settings}
+use Rattle.sky_base.specs.declared.status.Status.TheVariants.{Done, Words, Malformed, Early, SourceFault, SinkFault, JournalFault, CloudFault, Memory, Foreign, Missing, Damaged, Worn, Long, Settings}
 use Rattle.sky_journal.specs.Journal.{JournalView}
 use Rattle.sky_outside.specs.Count.{Rose}
 use Rattle.sky_outside.specs.Told.{WhereTold}
@@ -83,6 +83,10 @@ stops_in JournalFault bytes frames rest read = absurd read
 stops_in (Foreign at) bytes frames rest read = absurd read
 stops_in Memory bytes frames rest read = absurd read
 stops_in Settings bytes frames rest read = absurd read
+stops_in CloudFault bytes frames rest read = absurd read
+stops_in (Missing name) bytes frames rest read = absurd read
+stops_in (Damaged name damage) bytes frames rest read = absurd read
+stops_in Worn bytes frames rest read = absurd read
 
 -- ---- two ways to stop
 
@@ -213,6 +217,10 @@ read_exact JournalFault journal bytes None frames answers last handled read = ab
 read_exact (Foreign at) journal bytes None frames answers last handled read = absurd read
 read_exact Memory journal bytes None frames answers last handled read = absurd read
 read_exact Settings journal bytes None frames answers last handled read = absurd read
+read_exact CloudFault journal bytes None frames answers last handled read = absurd read
+read_exact (Missing name) journal bytes None frames answers last handled read = absurd read
+read_exact (Damaged name damage) journal bytes None frames answers last handled read = absurd read
+read_exact Worn journal bytes None frames answers last handled read = absurd read
 
 -- a status that blames a device, the memory, or what was on the disk is never wrong
 exact_free : (status : Status) (bytes : List ℕ) → IsFree status → IsExact status bytes
@@ -234,6 +242,10 @@ ran_exact g from to Memory (Some bytes) left sink ran began = exact_free Memory 
 ran_exact g from to (Foreign at) (Some bytes) left sink ran began = exact_free (Foreign at) bytes tt
 ran_exact g from to Words (Some bytes) left sink ran began = absurd began
 ran_exact g from to Settings (Some bytes) left sink ran began = absurd began
+ran_exact g from to CloudFault (Some bytes) left sink ran began = absurd ran.ends.0
+ran_exact g from to (Missing name) (Some bytes) left sink ran began = absurd ran.ends.0
+ran_exact g from to (Damaged name damage) (Some bytes) left sink ran began = absurd ran.ends.0
+ran_exact g from to Worn (Some bytes) left sink ran began = absurd ran.ends.0
 
 -- ---- devices that never fail
 
@@ -254,6 +266,10 @@ free_memory Memory free a b c d = refl
 free_memory (Foreign at) free a b c d = absurd (d at refl)
 free_memory Long free a b c d = absurd free
 free_memory Settings free a b c d = absurd free
+free_memory CloudFault free a b c d = absurd free
+free_memory (Missing name) free a b c d = absurd free
+free_memory (Damaged name damage) free a b c d = absurd free
+free_memory Worn free a b c d = absurd free
 
 -- an exact status that blames nothing but the memory
 pub only_memory : (v : Status) (bytes : List ℕ) → IsExact v bytes → (v ≡ SourceFault → ⊥) → (v ≡ SinkFault → ⊥) → (v ≡ JournalFault → ⊥) → ((at : ℕ) → v ≡ Foreign at → ⊥)

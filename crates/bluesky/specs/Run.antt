@@ -2,7 +2,7 @@
 use Rattle.std.specs.Prelude.{◌≡◌, ◌≢◌, ◌+◌, ◌<◌, ◌≤◌, ◌^◌, ◌⊎◌, ℕ, List, [], ◌∷◌, ◌++◌, length, take, Option, Some}
 use Rattle.std.specs.List.{AllByRecursion}
 use Rattle.sky_base.specs.declared.status.Status.{Status}
-use Rattle.sky_base.specs.declared.status.Status.TheVariants.{Done, Words, Malformed, Early, SourceFault, SinkFault, JournalFault, Memory, Foreign, Long, Settings}
+use Rattle.sky_base.specs.declared.status.Status.TheVariants.{Done, Words, Malformed, Early, SourceFault, SinkFault, JournalFault, CloudFault, Memory, Foreign, Missing, Damaged, Worn, Long, Settings}
 use Rattle.sky_journal.specs.Journal.{JournalView}
 use Rattle.sky_outside.specs.Count.{Rose}
 use Rattle.sky_outside.specs.Moments.{LeavesOnly, BesideObjects}
@@ -166,6 +166,11 @@ EndsBetween Settings source sink frames answers last = (frames ≡ []) × TookNo
 -- these come within a step
 EndsBetween SinkFault source sink frames answers last = ⊥
 EndsBetween JournalFault source sink frames answers last = ⊥
+-- for now no run asks anything of the cloud
+EndsBetween CloudFault source sink frames answers last = ⊥
+EndsBetween (Missing name) source sink frames answers last = ⊥
+EndsBetween (Damaged name damage) source sink frames answers last = ⊥
+EndsBetween Worn source sink frames answers last = ⊥
 
 -- the same by each status, and what is kept in the state that was reached: where a run ends within a step, it is that to which the
 -- step leads
