@@ -1,15 +1,16 @@
 -- What an opening finds on a site, and what it leaves there.
-use Rattle.std.specs.Prelude.{◌≡◌, ℕ, Bool, false, List, [], ◌++◌, map, Ok, IsSome, nat_lt}
-use Rattle.sky_base.specs.declared.object.SegName.{SegName}
+use Rattle.std.specs.Prelude.{◌≡◌, ℕ, ◌<◌, ◌≤◌, false, List, [], ◌++◌, map, None, Some, Ok, IfSome, IsSome}
+use Rattle.std.specs.List.{AllByRecursion}
 use Rattle.sky_entry.specs.Entry.{entry_bytes}
-use Rattle.sky_journal.specs.Journal.{JournalView, IsJournal, StandsFor, StandsOn, entries, first_base, number_behind}
+use Rattle.sky_journal.specs.Journal.{JournalView, IsJournal, StandsFor, StandsOn, entries, first_base, new_area, number_behind}
 use Rattle.sky_journal.specs.Text.{numbered}
-use Rattle.sky_nfs.specs.History.{History, IsLegalHistory, history_length, last_tree}
+use Rattle.sky_nfs.specs.History.{History, IsLegalHistory, history_length}
 use Rattle.sky_outside.specs.CloudMap.{CloudMap}
 use Rattle.sky_outside.specs.Moments.{LeavesOnly}
 use Rattle.sky_outside.specs.Told.{WhereTold}
 use Rattle.sky_outside.specs.declared.storage.Storage.{Ghosts}
 use Rattle.sky_sound.specs.Cloud.{epoch_after}
+use Rattle.sky_sound.specs.Entries.{IsStorable}
 use Rattle.sky_sound.specs.Recovery.{IsSound, FindsSame, history_of}
 
 -- what an opening found: the number of its epoch, the history that goes on, and the journal that keeps it
@@ -26,7 +27,10 @@ WhereBothTold g s P = WhereTold (g.image s) (λ image. WhereTold (g.objects s) (
 -- site stands for, and the epoch is the one behind those of which its cloud holds an object.
 pub record IsFoundOn {S : Type 0} (g : Ghosts S) (volume size : ℕ) (s : S) (found : Found) : Type 0 where
   pub legal : IsLegalHistory found.history
+  pub storable : AllByRecursion IsStorable found.history.changes
   pub volume : found.history.tree.volume ≡ volume
+  pub journal_volume : found.journal.volume ≡ volume
+  pub journal_size : found.journal.size ≡ size
   pub history : WhereBothTold g s (λ image objects. history_of volume size image objects ≡ Ok found.history)
   pub epoch : WhereTold (g.objects s) (λ objects. found.epoch ≡ epoch_after objects)
 
@@ -47,6 +51,10 @@ pub record IsOpenOn {S : Type 0} (g : Ghosts S) (s : S) (found : Found) : Type 0
   pub stored : number_behind found.journal.newer 0 ≡ history_length found.history
   pub stands : StandsOn g found.journal s
   pub has : WhereTold (g.image s) (HasEntries found.journal found.history)
+  -- where no change is above those that the cloud covers, the area at the disk's start is the only one that is open, and has no entries
+  pub begun : history_length found.history ≤ found.history.before → (found.journal.older ≡ None) × (found.journal.newer ≡ Some (new_area 0 found.history.before))
+  -- else no area is open whose changes are all covered
+  pub uncovered : found.history.before < history_length found.history → IfSome found.journal.older (λ a. found.history.before < a.last)
 
 -- A crash at any moment from s to t leaves a site on which recovery finds the same as on s, where that was sound.
 abbrev pub LeavesFound : {S : Type 0} → Ghosts S → ℕ → ℕ → S → S → Type 0

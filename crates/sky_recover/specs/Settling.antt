@@ -1,0 +1,30 @@
+-- What an opening reads of the journal, and how it leaves the journal's areas.
+use Rattle.std.specs.Prelude.{◌≡◌, ℕ, ◌<◌, ◌≤◌, max, false, List, [], None, Some, Ok, IfSome, IsSome}
+use Rattle.sky_journal.specs.Journal.{JournalView, StandsFor, entries, new_area, number_behind}
+use Rattle.sky_sound.specs.Entries.{journal_of, entries_above}
+
+-- over an image the journal stands for the entries of changes that the image says, where those up to covers are kept elsewhere too
+pub record IsRead (j : JournalView) (covers : ℕ) (image : List ℕ) : Type 0 where
+  pub older : List (List ℕ)
+  pub newer : List (List ℕ)
+  pub stands : StandsFor j image older newer
+  pub says : journal_of j.volume j.size covers image ≡ Ok (entries j older newer)
+
+-- an image says the same entries above covers as these
+pub record KeepsAbove (volume size covers : ℕ) (list : List (ℕ × List ℕ)) (image : List ℕ) : Type 0 where
+  pub read : List (ℕ × List ℕ)
+  pub says : journal_of volume size covers image ≡ Ok read
+  pub above : entries_above covers read ≡ entries_above covers list
+
+-- A journal is left ready for changes, where the entries up to covers are kept elsewhere too: an area is open. Where no entry is above
+-- covers it is the one at the disk's start, empty, and its base is covers. Else no area is open whose entries are all kept elsewhere.
+pub record IsSettled (covers : ℕ) (old new : JournalView) : Type 0 where
+  pub volume : new.volume ≡ old.volume
+  pub size : new.size ≡ old.size
+  pub disk : new.disk ≡ old.disk
+  pub pending : new.pending ≡ []
+  pub down : new.down ≡ false
+  pub area : IsSome new.newer
+  pub last : number_behind new.newer 0 ≡ max covers (number_behind old.newer 0)
+  pub begun : number_behind old.newer 0 ≤ covers → (new.older ≡ None) × (new.newer ≡ Some (new_area 0 covers))
+  pub uncovered : covers < number_behind old.newer 0 → IfSome new.older (λ a. covers < a.last)
