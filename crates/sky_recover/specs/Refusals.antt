@@ -1,12 +1,13 @@
 -- How an opening is refused by what the cloud lists.
-use Rattle.std.specs.Prelude.{◌≡◌, ℕ, ◌<◌, Option, Some, None, Result, Ok, Err}
+use Rattle.std.specs.Prelude.{◌≡◌, ℕ, ◌<◌, List, Some, None, Result, Ok, Err}
 use Rattle.sky_base.specs.Limits.{max_number}
 use Rattle.sky_base.specs.declared.object.SegName.{SegName}
 use Rattle.sky_base.specs.declared.place.Damage.TheVariants.{Form}
 use Rattle.sky_base.specs.declared.place.Lost.{Lost}
-use Rattle.sky_base.specs.declared.place.Lost.TheVariants.{Damaged}
+use Rattle.sky_base.specs.declared.place.Lost.TheVariants.{Damaged, Missing}
 use Rattle.sky_outside.specs.CloudMap.{CloudMap}
-use Rattle.sky_sound.specs.Cloud.{checkpoint_in, epoch_after}
+use Rattle.sky_sound.specs.Cloud.{checkpoint_in, cloud_tree, covers_of, epoch_after}
+use Rattle.sky_recover.specs.Replaying.{IsForeignAt}
 use Rattle.sky_recover.specs.declared.fault.OpenFault.{OpenFault}
 use Rattle.sky_recover.specs.declared.fault.OpenFault.TheVariants as fault
 
@@ -37,6 +38,18 @@ IsJudged (Err (fault.Foreign at)) objects = IsClaimable objects
 IsJudged (Err (fault.Lost lost)) objects = IsLost objects lost
 IsJudged (Err fault.Worn) objects = IsWorn objects
 
+-- This fault of an opening comes of what a site has on its disk and in its cloud: `Foreign` where the image is foreign there, `Lost` of the last
+-- checkpoint of the proxy that is listed, and `Worn` where there is no epoch left. The other faults come of the devices and of memory.
+abbrev pub IsRefusedBy : (volume size : ℕ) → OpenFault → List ℕ → CloudMap → Type 0
+IsRefusedBy volume size fault.DiskFault image objects = Unit {0}
+IsRefusedBy volume size fault.CloudFault image objects = Unit {0}
+IsRefusedBy volume size fault.Memory image objects = Unit {0}
+IsRefusedBy volume size (fault.Foreign at) image objects =
+    (checkpoint_in objects ≡ None) × IsForeignAt volume size (covers_of objects) (cloud_tree volume objects) image at
+IsRefusedBy volume size (fault.Lost (Missing name)) image objects = ⊥
+IsRefusedBy volume size (fault.Lost (Damaged name damage)) image objects = (checkpoint_in objects ≡ Some name) × (damage ≡ Form 0)
+IsRefusedBy volume size fault.Worn image objects = (checkpoint_in objects ≡ None) × (epoch_after objects ≡ max_number)
+
 -- no fault is one of the journal
 abbrev pub IsOfList : {T : Type 0} → Result T OpenFault → Type 0
 IsOfList (Ok _) = Unit {0}
@@ -56,6 +69,16 @@ IsOfPut (Err fault.Memory) = Unit {0}
 IsOfPut (Err (fault.Foreign at)) = ⊥
 IsOfPut (Err (fault.Lost lost)) = ⊥
 IsOfPut (Err fault.Worn) = ⊥
+
+-- no fault is one of what is listed
+abbrev pub IsOfReading : {T : Type 0} → Result T OpenFault → Type 0
+IsOfReading (Ok _) = Unit {0}
+IsOfReading (Err fault.DiskFault) = Unit {0}
+IsOfReading (Err fault.CloudFault) = Unit {0}
+IsOfReading (Err fault.Memory) = Unit {0}
+IsOfReading (Err (fault.Foreign at)) = Unit {0}
+IsOfReading (Err (fault.Lost lost)) = ⊥
+IsOfReading (Err fault.Worn) = ⊥
 
 -- on a sound site an opening is refused by no object and by no byte of its disk
 abbrev pub IsOfDevices : {T : Type 0} → Result T OpenFault → Type 0

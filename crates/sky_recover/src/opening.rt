@@ -1,6 +1,6 @@
 //! Opening a volume from a site's journal and its cloud.
 
-ghost use Rattle.std.specs.Prelude.{◌≡◌, ◌<◌, ◌≤◌, ℕ, List, [], false, IfOk, IsErrOf, OnErr, OnOk, Ok, Err};
+ghost use Rattle.std.specs.Prelude.{◌≡◌, ◌⊎◌, ◌<◌, ◌≤◌, ℕ, List, [], false, IfErr, IfOk, IsErrOf, OnErr, OnOk, Ok, Err};
 ghost use Rattle.sky_base.specs.Limits.{max_journal_area, max_number, max_volume, min_journal_area};
 ghost use Rattle.sky_nfs.specs.Tree.{empty_tree};
 ghost use Rattle.sky_journal.specs.Journal.{StandsOn};
@@ -12,10 +12,9 @@ ghost use Rattle.sky_sound.specs.Boot.{boot_bytes, boot_name, claimed};
 ghost use Rattle.sky_sound.specs.Entries.{entries_above, journal_of};
 ghost use Rattle.sky_sound.specs.Recovery.{IsSound};
 ghost use Rattle.sky_recover.specs.Faults.{IsOfJournal};
-ghost use Rattle.sky_recover.specs.Opened.{IsOpened};
-ghost use Rattle.sky_recover.specs.Opening.{LeavesFound, WhereBothTold};
-ghost use Rattle.sky_recover.specs.Refusals.{IsJudged, IsOfDevices, IsOfReading};
-ghost use Rattle.sky_recover.specs.Replaying.{FailsAt, IsForeignAt};
+ghost use Rattle.sky_recover.specs.Opening.{IsOpened, LeavesFound, WhereBothTold};
+ghost use Rattle.sky_recover.specs.Refusals.{IsJudged, IsOfDevices, IsOfReading, IsRefusedBy};
+ghost use Rattle.sky_recover.specs.Replaying.{FailsAt};
 ghost use Rattle.sky_recover.specs.Settling.{IsRead, KeepsAbove};
 ghost use Rattle.sky_recover.specs.Steps.{IsContinued, PutsOrNot};
 ghost use Rattle.sky_recover.specs.declared.fault.OpenFault.TheVariants.{CloudFault, DiskFault, Foreign};
@@ -72,7 +71,7 @@ fn read_and_claim<S: Site>(
     Ok(journal)
 }
 
-/// Settles the areas of a journal that was just read, and does its changes again, on the empty tree of the volume.
+/// Does the changes of a journal that was just read again, on the empty tree of the volume, and leaves its areas ready for changes.
 ///
 /// `Foreign` where the answer to one of them is not OK, with the place at which its entry lies.
 fn continue_from<D: Disk>(
@@ -87,8 +86,8 @@ fn continue_from<D: Disk>(
     requires stands { StandsOn D.Storage journal disk.old }
     requires read { WhereTold (D.image disk.old) (IsRead journal 0) }
     ensures continued { IfOk result (IsContinued D.Storage volume journal disk.old disk.new) }
-    ensures foreign { (at : ℕ) → IsErrOf result (Foreign at) → WhereTold (D.image disk.old) (λ image. WhereTold (D.image disk.new) (λ now. (list : List (ℕ × List ℕ))
-        → journal_of journal.volume journal.size 0 image ≡ Ok list → FailsAt (empty_tree volume) (entries_above 0 list) now at)) }
+    ensures foreign { (at : ℕ) → IsErrOf result (Foreign at) → WhereTold (D.image disk.old) (λ image. (list : List (ℕ × List ℕ))
+        → journal_of journal.volume journal.size 0 image ≡ Ok list → FailsAt (empty_tree volume) (entries_above 0 list) image at) }
     ensures any_moment { WhereTold (D.image disk.old) (λ image. (list : List (ℕ × List ℕ)) → journal_of journal.volume journal.size 0 image ≡ Ok list
         → LeavesOnly D.Storage disk.old disk.new (BesideObjects D.Storage disk.old (KeepsAbove journal.volume journal.size 0 list))) }
     ensures tells { OnOk result (BothTold (λ old new. Unit {0}) (D.image disk.old) (D.image disk.new)) }
@@ -98,20 +97,20 @@ fn continue_from<D: Disk>(
     ensures cause { Counts (D.disk_faults disk.old) (D.disk_faults disk.new) (IsErrOf result DiskFault) }
     ensures cloud { D.cloud_faults disk.new ≡ D.cloud_faults disk.old }
 {
-    let mut journal = journal;
-    settle(&mut journal, disk, COVERS)?;
     let mut tree = Tree::empty(alloc, volume)?;
     replay(alloc, &journal, disk, &mut tree)?;
+    let mut journal = journal;
+    settle(&mut journal, disk, COVERS)?;
     Ok(DurableTree::new(alloc, tree, journal))
 }
 
-/// Opens the volume of the settings: lists the cloud, reads the journal, claims the next epoch by the boot object, settles the journal's areas,
-/// and does the journal's changes again. When it begins, nothing that was written to the disk may wait for a sync.
+/// Opens the volume of the settings: lists the cloud, reads the journal, claims the next epoch by the boot object, does the changes of the journal
+/// again, and leaves its areas ready for changes. When it begins, nothing that was written to the disk may wait for a sync.
 ///
 /// What comes first ends it: `CloudFault` and `Memory` where the cloud could not be listed; `Lost` where a checkpoint of the proxy is listed, as
 /// none is read yet; `Worn` exactly where the epoch would be 2^62; `DiskFault`, `Memory` and `Foreign` where the journal could not be read;
-/// `CloudFault` and `Memory` where the boot object could not be put, which may be there all the same; `DiskFault` where the areas could not be
-/// settled; `DiskFault`, `Memory` and `Foreign` where a change could not be done again. `DiskFault` and `CloudFault` come only where that count of
+/// `CloudFault` and `Memory` where the boot object could not be put, which may be there all the same; `DiskFault`, `Memory` and `Foreign` where a
+/// change could not be done again; `DiskFault` where an area could not be closed or opened. `DiskFault` and `CloudFault` come only where that count of
 /// faults rose.
 ///
 /// A stop at any moment of it leaves what recovery finds as it was.
@@ -128,13 +127,13 @@ pub fn recover<S: Site>(
     ensures any_moment { LeavesFound S.Storage settings.now.volume settings.now.journal_area site.old site.new }
 
     // The cloud has the boot object more, or nothing more.
-    ensures claimed { OnOk result (Happened claimed (S.objects site.old) (S.objects site.new)) }
-    ensures unclaimed { OnErr result (HappenedOrNot claimed (S.objects site.old) (S.objects site.new)) }
+    ensures claimed { OnOk result (BothTold (λ old new. new ≡ claimed old) (S.objects site.old) (S.objects site.new)) }
+    ensures unclaimed { OnErr result (BothTold (λ old new. (new ≡ old) ⊎ (new ≡ claimed old)) (S.objects site.old) (S.objects site.new)) }
 
     // Why it was refused.
     ensures judged { WhereTold (S.objects site.old) (IsJudged result) }
-    ensures foreign { (at : ℕ) → IsErrOf result (Foreign at) → WhereTold (S.image site.old) (λ image. WhereTold (S.image site.new)
-        (IsForeignAt settings.now.volume settings.now.journal_area at image)) }
+    ensures refused { IfErr result (λ fault. WhereBothTold S.Storage site.old
+        (IsRefusedBy settings.now.volume settings.now.journal_area fault)) }
     ensures sound { WhereBothTold S.Storage site.old (λ image objects.
         IsSound settings.now.volume settings.now.journal_area image objects → IsOfDevices result) }
     ensures disk_cause { Counts (S.disk_faults site.old) (S.disk_faults site.new) (IsErrOf result DiskFault) }
