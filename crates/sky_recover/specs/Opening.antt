@@ -34,6 +34,19 @@ pub record BeginsAt (volume : ℕ) (found : Found) (objects : CloudMap) : Type 0
   pub tree : found.history.tree ≡ cloud_tree volume objects
   pub epoch : found.epoch ≡ epoch_after objects
 
+-- The journal as it was read from an image: its areas are those of the journal that was found, where a change is above those that the cloud
+-- covers, and the older area has one too.
+pub record KeepsAreas (volume size : ℕ) (found : Found) (image : List ℕ) : Type 0 where
+  pub read : JournalView
+  pub is : IsJournal read
+  pub volume_is : read.volume ≡ volume
+  pub size_is : read.size ≡ size
+  pub older : List (List ℕ)
+  pub newer : List (List ℕ)
+  pub stands : StandsFor read image older newer
+  pub same : found.history.before < number_behind read.newer 0 → IfSome read.older (λ a. found.history.before < a.last)
+      → (found.journal.older ≡ read.older) × (found.journal.newer ≡ read.newer)
+
 -- It was found on this site: a legal history, whichever the site is, that begins where its cloud ends. Where the site tells what it has,
 -- it is the history that the site stands for.
 pub record IsFoundOn {S : Type 0} (g : Ghosts S) (volume size : ℕ) (s : S) (found : Found) : Type 0 where
@@ -44,6 +57,7 @@ pub record IsFoundOn {S : Type 0} (g : Ghosts S) (volume size : ℕ) (s : S) (fo
   pub journal_size : found.journal.size ≡ size
   pub history : WhereBothTold g s (λ image objects. history_of volume size image objects ≡ Ok found.history)
   pub cloud : WhereTold (g.objects s) (BeginsAt volume found)
+  pub areas : WhereTold (g.image s) (KeepsAreas volume size found)
 
 -- over this image the journal has the entries of the history's changes by their numbers, and those that are appended follow them
 pub record HasEntries (journal : JournalView) (history : History) (image : List ℕ) : Type 0 where

@@ -3,7 +3,7 @@
 ghost use Rattle.std.specs.Prelude.{◌≡◌, ◌⊎◌, ◌<◌, ◌≤◌, ℕ, List, [], false, IfErr, IfOk, IsErrOf, OnErr, OnOk, Ok, Err};
 ghost use Rattle.sky_base.specs.Limits.{max_journal_area, max_number, max_volume, min_journal_area};
 ghost use Rattle.sky_nfs.specs.Tree.{empty_tree};
-ghost use Rattle.sky_journal.specs.Journal.{StandsOn};
+ghost use Rattle.sky_journal.specs.Journal.{IsJournal, StandsOn};
 ghost use Rattle.sky_outside.specs.CloudMap.{after_put, Happened, HappenedOrNot};
 ghost use Rattle.sky_outside.specs.Count.{Counts};
 ghost use Rattle.sky_outside.specs.Moments.{BesideObjects, LeavesOnly, NothingPending, SameCloud};
@@ -52,6 +52,7 @@ fn read_and_claim<S: Site>(
     requires settled { NothingPending S.Storage site.old }
     ensures read { IfOk result (λ j. WhereTold (S.image site.new) (IsRead j 0)) }
     ensures stands { IfOk result (λ j. StandsOn S.Storage j site.new) }
+    ensures is { IfOk result IsJournal }
     ensures volume { IfOk result (λ j. j.volume ≡ volume) }
     ensures size { IfOk result (λ j. j.size ≡ area) }
     ensures pending { IfOk result (λ j. j.pending ≡ []) }
@@ -67,6 +68,7 @@ fn read_and_claim<S: Site>(
     ensures cloud_cause { Counts (S.cloud_faults site.old) (S.cloud_faults site.new) (IsErrOf result CloudFault) }
 {
     let journal = read_changes(alloc, site, volume, area, COVERS)?;
+    journal.facts();
     claim_epoch(alloc, site, epoch)?;
     Ok(journal)
 }
@@ -86,6 +88,7 @@ fn continue_from<D: Disk>(
     requires stands { StandsOn D.Storage journal disk.old }
     requires read { WhereTold (D.image disk.old) (IsRead journal 0) }
     ensures continued { IfOk result (IsContinued D.Storage volume journal disk.old disk.new) }
+    ensures is { IfOk result (λ d. IsJournal d.journal) }
     ensures foreign { (at : ℕ) → IsErrOf result (Foreign at) → WhereTold (D.image disk.old) (λ image. (list : List (ℕ × List ℕ))
         → journal_of journal.volume journal.size 0 image ≡ Ok list → FailsAt (empty_tree volume) (entries_above 0 list) image at) }
     ensures any_moment { WhereTold (D.image disk.old) (λ image. (list : List (ℕ × List ℕ)) → journal_of journal.volume journal.size 0 image ≡ Ok list
@@ -101,6 +104,7 @@ fn continue_from<D: Disk>(
     replay(alloc, &journal, disk, &mut tree)?;
     let mut journal = journal;
     settle(&mut journal, disk, COVERS)?;
+    journal.facts();
     Ok(DurableTree::new(alloc, tree, journal))
 }
 
