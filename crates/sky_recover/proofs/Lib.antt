@@ -1,3 +1,6 @@
 pub mod Finds
+pub mod Keeps
 pub mod Lists
+pub mod Moments
 pub mod Puts
+pub mod Refused
