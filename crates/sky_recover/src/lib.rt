@@ -8,3 +8,6 @@ mod replaying;
 mod settling;
 
 pub use fault::OpenFault;
+
+#[cfg(test)]
+mod tests;
