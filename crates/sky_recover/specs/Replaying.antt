@@ -1,5 +1,6 @@
 -- What doing the changes of a journal again leads to.
 use Rattle.std.specs.Prelude.{◌≡◌, ◌⊎◌, ℕ, true, false, IsTrue, List, [], ◌∷◌, ◌++◌, length, Some, Ok, Err}
+use Rattle.std.specs.List.{AllByRecursion}
 use Rattle.sky_nfs.specs.History.{are_done, is_done, tree_after_change, tree_after_changes}
 use Rattle.sky_nfs.specs.Tree.{Tree}
 use Rattle.sky_nfs.specs.declared.call.Change.{Change}
@@ -10,8 +11,7 @@ use Rattle.sky_outside.specs.declared.storage.Storage.{Ghosts}
 use Rattle.sky_journal.specs.Journal.{JournalView, StandsFor, number_behind}
 use Rattle.sky_journal.specs.Place.{Left}
 use Rattle.sky_journal.specs.declared.place.Place.{Place}
-use Rattle.sky_sound.specs.Entries.{change_of, changes_in, entries_above, is_of_change, journal_of}
-use Rattle.sky_recover.specs.Opening.{HasEntries}
+use Rattle.sky_sound.specs.Entries.{IsStorable, change_of, changes_in, entries_above, is_of_change, journal_of}
 
 -- ---- one entry
 
@@ -54,11 +54,11 @@ IsForeignAt volume size covers start image at =
     ⊎ ((list : List (ℕ × List ℕ)) × (journal_of volume size covers image ≡ Ok list) × FailsAt start (entries_above covers list) image at)
 
 -- Doing a journal's changes again led from a tree to this one, by changes that were each answered OK: as many as the journal's last number
--- says. Where the disk tells what it has, they are those of the journal, which has their entries and no others.
+-- says. Where the disk tells what it has, they are those of the journal.
 pub record IsReplayed {S : Type 0} (g : Ghosts S) (j : JournalView) (s : S) (start tree : Tree) : Type 0 where
   pub changes : List Change
   pub tree_is : tree ≡ tree_after_changes start changes
   pub done : IsTrue (are_done start changes)
+  pub storable : AllByRecursion IsStorable changes
   pub count : length changes ≡ number_behind j.newer 0
   pub told : WhereTold (g.image s) (λ image. (list : List (ℕ × List ℕ)) → journal_of j.volume j.size 0 image ≡ Ok list → changes ≡ changes_in (entries_above 0 list))
-  pub has : WhereTold (g.image s) (HasEntries j (record { before = 0; tree = start; changes = changes }))

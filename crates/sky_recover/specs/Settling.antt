@@ -42,3 +42,5 @@ pub record IsSettled (covers : ℕ) (old new : JournalView) : Type 0 where
   pub last : number_behind new.newer 0 ≡ max covers (number_behind old.newer 0)
   pub begun : number_behind old.newer 0 ≤ covers → (new.older ≡ None) × (new.newer ≡ Some (new_area 0 covers))
   pub uncovered : covers < number_behind old.newer 0 → IfSome new.older (λ a. covers < a.last)
+  -- where there is an entry above covers, and the older area has one too, the areas stay
+  pub kept : covers < number_behind old.newer 0 → IfSome old.older (λ a. covers < a.last) → (new.older ≡ old.older) × (new.newer ≡ old.newer)

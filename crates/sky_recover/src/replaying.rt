@@ -167,7 +167,6 @@ pub(crate) fn replay<D: Disk>(
     tree: &mut Tree,
 ) -> Result<(), OpenFault>
     requires size { D.bytes_of disk.old ≡ journal.now.disk }
-    requires area { IsSome journal.now.newer }
     requires pending { journal.now.pending ≡ [] }
     requires read { WhereTold (D.image disk.old) (IsRead journal.now 0) }
     ensures replayed { OnOk result (IsReplayed D.Storage journal.now disk.old tree.old tree.new) }
