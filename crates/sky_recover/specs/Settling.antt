@@ -1,5 +1,8 @@
 -- What an opening reads of the journal, and how it leaves the journal's areas.
 use Rattle.std.specs.Prelude.{◌≡◌, ℕ, ◌<◌, ◌≤◌, max, false, List, [], None, Some, Ok, IfSome, IsSome}
+use Rattle.sky_outside.specs.Moments.{LeavesOnly, BesideObjects}
+use Rattle.sky_outside.specs.Told.{WhereTold, BothTold}
+use Rattle.sky_outside.specs.declared.storage.Storage.{Ghosts}
 use Rattle.sky_journal.specs.Journal.{JournalView, StandsFor, entries, new_area, number_behind}
 use Rattle.sky_sound.specs.Entries.{journal_of, entries_above}
 
@@ -15,6 +18,17 @@ pub record KeepsAbove (volume size covers : ℕ) (list : List (ℕ × List ℕ))
   pub read : List (ℕ × List ℕ)
   pub says : journal_of volume size covers image ≡ Ok read
   pub above : entries_above covers read ≡ entries_above covers list
+
+-- from s to t the disk of a journal says the same entries above covers
+abbrev pub StaysAbove : {S : Type 0} → Ghosts S → S → S → JournalView → ℕ → Type 0
+StaysAbove g s t j covers =
+    BothTold (λ old new. (list : List (ℕ × List ℕ)) → journal_of j.volume j.size covers old ≡ Ok list → KeepsAbove j.volume j.size covers list new) (g.image s) (g.image t)
+
+-- a crash at any moment from s to t leaves an image that says them
+abbrev pub LeavesAbove : {S : Type 0} → Ghosts S → S → S → JournalView → ℕ → Type 0
+LeavesAbove g s t j covers =
+    WhereTold (g.image s) (λ image. (list : List (ℕ × List ℕ)) → journal_of j.volume j.size covers image ≡ Ok list
+    → LeavesOnly g s t (BesideObjects g s (KeepsAbove j.volume j.size covers list)))
 
 -- A journal is left ready for changes, where the entries up to covers are kept elsewhere too: an area is open. Where no entry is above
 -- covers it is the one at the disk's start, empty, and its base is covers. Else no area is open whose entries are all kept elsewhere.

@@ -1,13 +1,12 @@
 //! Leaving the journal's areas ready for changes.
 
-ghost use Rattle.std.specs.Prelude.{◌≡◌, ℕ, ◌<◌, ◌≤◌, List, [], Ok, false, IfSome, IsErr, OnOk, is_err, is_some};
+ghost use Rattle.std.specs.Prelude.{◌≡◌, ◌<◌, ◌≤◌, [], false, true, IfSome, IsErr, OnOk, is_err};
 ghost use Rattle.sky_base.specs.Limits.{max_number};
 ghost use Rattle.sky_outside.specs.Count.{Counts};
-ghost use Rattle.sky_outside.specs.Moments.{SameCloud, LeavesOnly, BesideObjects};
-ghost use Rattle.sky_outside.specs.Told.{WhereTold, BothTold};
+ghost use Rattle.sky_outside.specs.Moments.{SameCloud};
+ghost use Rattle.sky_outside.specs.Told.{WhereTold};
 ghost use Rattle.sky_journal.specs.Journal.{StandsOn, number_behind};
-ghost use Rattle.sky_sound.specs.Entries.{journal_of};
-ghost use Rattle.sky_recover.specs.Settling.{IsRead, IsSettled, KeepsAbove};
+ghost use Rattle.sky_recover.specs.Settling.{IsRead, IsSettled, LeavesAbove, StaysAbove};
 
 use sky_journal::Journal;
 use sky_outside::{Disk, Failed};
@@ -23,16 +22,15 @@ fn begin_anew<D: Disk>(journal: &mut Journal, disk: &mut D, covers: u64) -> Resu
     ensures settled { OnOk result (IsSettled covers journal.old journal.new) }
     ensures stands { OnOk result (StandsOn D.Storage journal.new disk.new) }
     ensures read { OnOk result (WhereTold (D.image disk.new) (IsRead journal.new covers)) }
-    ensures above { OnOk result (BothTold (λ old new. (list : List (ℕ × List ℕ)) → journal_of journal.old.volume journal.old.size covers old ≡ Ok list
-        → KeepsAbove journal.old.volume journal.old.size covers list new) (D.image disk.old) (D.image disk.new)) }
-    ensures any_moment { WhereTold (D.image disk.old) (λ image. (list : List (ℕ × List ℕ)) → journal_of journal.old.volume journal.old.size covers image ≡ Ok list
-        → LeavesOnly D.Storage disk.old disk.new (BesideObjects D.Storage disk.old (KeepsAbove journal.old.volume journal.old.size covers list))) }
+    ensures above { OnOk result (StaysAbove D.Storage disk.old disk.new journal.old covers) }
+    ensures any_moment { LeavesAbove D.Storage disk.old disk.new journal.old covers }
     ensures down { journal.new.down ≡ is_err result }
     ensures beside { SameCloud D.Storage disk.old disk.new }
     ensures size { D.bytes_of disk.new ≡ D.bytes_of disk.old }
     ensures cause { Counts (D.disk_faults disk.old) (D.disk_faults disk.new) (IsErr result) }
     ensures cloud { D.cloud_faults disk.new ≡ D.cloud_faults disk.old }
 {
+    journal.facts();
     journal.wipe(disk)?;
     journal.rotate(disk, covers)
 }
@@ -63,16 +61,15 @@ fn release_covered<D: Disk>(
     ensures settled { OnOk result (IsSettled covers journal.old journal.new) }
     ensures stands { OnOk result (StandsOn D.Storage journal.new disk.new) }
     ensures read { OnOk result (WhereTold (D.image disk.new) (IsRead journal.new covers)) }
-    ensures above { OnOk result (BothTold (λ old new. (list : List (ℕ × List ℕ)) → journal_of journal.old.volume journal.old.size covers old ≡ Ok list
-        → KeepsAbove journal.old.volume journal.old.size covers list new) (D.image disk.old) (D.image disk.new)) }
-    ensures any_moment { WhereTold (D.image disk.old) (λ image. (list : List (ℕ × List ℕ)) → journal_of journal.old.volume journal.old.size covers image ≡ Ok list
-        → LeavesOnly D.Storage disk.old disk.new (BesideObjects D.Storage disk.old (KeepsAbove journal.old.volume journal.old.size covers list))) }
+    ensures above { OnOk result (StaysAbove D.Storage disk.old disk.new journal.old covers) }
+    ensures any_moment { LeavesAbove D.Storage disk.old disk.new journal.old covers }
     ensures down { journal.new.down ≡ is_err result }
     ensures beside { SameCloud D.Storage disk.old disk.new }
     ensures size { D.bytes_of disk.new ≡ D.bytes_of disk.old }
     ensures cause { Counts (D.disk_faults disk.old) (D.disk_faults disk.new) (IsErr result) }
     ensures cloud { D.cloud_faults disk.new ≡ D.cloud_faults disk.old }
 {
+    journal.facts();
     if older_is_covered(journal, covers) {
         journal.release(disk)
     } else {
@@ -98,11 +95,9 @@ pub(crate) fn settle<D: Disk>(
     ensures settled { OnOk result (IsSettled covers journal.old journal.new) }
     ensures stands { OnOk result (StandsOn D.Storage journal.new disk.new) }
     ensures read { OnOk result (WhereTold (D.image disk.new) (IsRead journal.new covers)) }
-    // The entries above covers are those from before.
-    ensures above { OnOk result (BothTold (λ old new. (list : List (ℕ × List ℕ)) → journal_of journal.old.volume journal.old.size covers old ≡ Ok list
-        → KeepsAbove journal.old.volume journal.old.size covers list new) (D.image disk.old) (D.image disk.new)) }
-    ensures any_moment { WhereTold (D.image disk.old) (λ image. (list : List (ℕ × List ℕ)) → journal_of journal.old.volume journal.old.size covers image ≡ Ok list
-        → LeavesOnly D.Storage disk.old disk.new (BesideObjects D.Storage disk.old (KeepsAbove journal.old.volume journal.old.size covers list))) }
+    // The entries above covers are those from before, also at each moment in between.
+    ensures above { OnOk result (StaysAbove D.Storage disk.old disk.new journal.old covers) }
+    ensures any_moment { LeavesAbove D.Storage disk.old disk.new journal.old covers }
     ensures down { journal.new.down ≡ is_err result }
     ensures beside { SameCloud D.Storage disk.old disk.new }
     ensures size { D.bytes_of disk.new ≡ D.bytes_of disk.old }
