@@ -1,4 +1,6 @@
+pub mod Continued
 pub mod Covered
+pub mod Entries
 pub mod Finds
 pub mod Keeps
 pub mod Lists
