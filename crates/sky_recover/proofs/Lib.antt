@@ -8,3 +8,4 @@ pub mod Moments
 pub mod Puts
 pub mod Refused
 pub mod Settled
+pub mod Spelled
