@@ -212,6 +212,11 @@ module _ {S : Type 0} (g : Ghosts S) (j : JournalView) (covers : ℕ) (is : IsJo
 
 -- ---- closing the older
 
+-- the older area's last number is up to covers
+pub low_from : (o : Option OpenArea) (covers : ℕ) → IfSome o (λ a. a.last ≤ covers) → number_behind o 0 ≤ covers
+low_from None covers le = omega arith
+low_from (Some a) covers le = omega (arith, le)
+
 -- what a crash may leave while it is closed, and for what the journal then stands
 abbrev pub ReleaseMoments : {S : Type 0} → Ghosts S → S → S → JournalView → Type 0
 ReleaseMoments g s t j = WhereTold (g.image s) (λ image. (older newer : List (List ℕ)) → StandsFor j image older newer
@@ -251,6 +256,18 @@ module _ (j : JournalView) (covers : ℕ) (is : IsJournal j) (low : number_behin
         (λ (q : Reads (without_older j) [] r.newer left).
         keeps_of j.volume j.size covers (first_base (without_older j)) (entries (without_older j) [] r.newer) (entries j r.older r.newer) left q (newer_low (based j covers image is r)) rest_all rest_same)
         which)
+
+  module _ {S : Type 0} (g : Ghosts S) (s t : S) (read : WhereTold (g.image s) (IsRead j covers)) where
+    pub released_leaves : ReleaseMoments g s t j → LeavesAbove g s t j covers
+    released_leaves moments =
+        WhereTold-from (g.image s) (λ image. (list : List (ℕ × List ℕ)) → journal_of j.volume j.size covers image ≡ Ok list
+        → LeavesOnly g s t (BesideObjects g s (KeepsAbove j.volume j.size covers list)))
+        (λ image told list says.
+        let r = WhereTold-at (g.image s) (IsRead j covers) image told read in
+        let here = WhereTold-at (g.image s) (λ image. (older newer : List (List ℕ)) → StandsFor j image older newer
+        → LeavesOnly g s t (BesideObjects g s (λ left. Reads j older newer left ⊎ Reads (without_older j) [] newer left))) image told moments r.older r.newer r.stands in
+        leaves_weaker g s t (λ left. Reads j r.older r.newer left ⊎ Reads (without_older j) [] r.newer left) (KeepsAbove j.volume j.size covers list) here
+        (λ left which. release_keeps image r list left says which))
 
   module _ (k : JournalView) (releases : SameButSpare (without_older j) k) where
     -- an older area that is covered is not one that isn't
@@ -297,17 +314,6 @@ module _ (j : JournalView) (covers : ℕ) (is : IsJournal j) (low : number_behin
           let r = WhereTold-at (g.image s) (IsRead j covers) x told read in
           let q : Reads k [] r.newer y = reads k y [] r.newer k_journal (stands r.older r.newer r.stands) in
           release_keeps x r list y says (inr (subst (λ (v : JournalView). Reads v [] r.newer y) releases q)))
-
-      pub released_leaves : ReleaseMoments g s t j → LeavesAbove g s t j covers
-      released_leaves moments =
-          WhereTold-from (g.image s) (λ image. (list : List (ℕ × List ℕ)) → journal_of j.volume j.size covers image ≡ Ok list
-          → LeavesOnly g s t (BesideObjects g s (KeepsAbove j.volume j.size covers list)))
-          (λ image told list says.
-          let r = WhereTold-at (g.image s) (IsRead j covers) image told read in
-          let here = WhereTold-at (g.image s) (λ image. (older newer : List (List ℕ)) → StandsFor j image older newer
-          → LeavesOnly g s t (BesideObjects g s (λ left. Reads j older newer left ⊎ Reads (without_older j) [] newer left))) image told moments r.older r.newer r.stands in
-          leaves_weaker g s t (λ left. Reads j r.older r.newer left ⊎ Reads (without_older j) [] r.newer left) (KeepsAbove j.volume j.size covers list) here
-          (λ left which. release_keeps image r list left says which))
 
 -- ---- leaving all as it is
 
