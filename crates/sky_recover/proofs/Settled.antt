@@ -48,7 +48,7 @@ both_chain P Q R (Some x) (Some y) (Some z) p q leads = leads x y z refl p q
 -- an area is open where there is an entry
 some_area : (covers : ℕ) (o : Option OpenArea) → covers < number_behind o 0 → IsSome o
 some_area covers None lt = absurd (omega (arith, lt))
-some_area covers (Some a) lt = tt
+some_area covers (Some a) lt = refl
 
 -- ---- closing both areas
 
@@ -117,6 +117,29 @@ module _ {S : Type 0} (g : Ghosts S) (j : JournalView) (covers : ℕ) (is : IsJo
 
   -- ---- and opening one
 
+  module _ (k : JournalView) (wipes : SameButSpare (wiped j) k) (s t u : S) (read : WhereTold (g.image s) (IsRead j covers)) (first : Wipes g s t j k) where
+    pub anew_leaves : SameCloud g s t → WipeMoments g s t j → RotateMoments g t u k covers → LeavesAbove g s u j covers
+    anew_leaves beside wipe rotate =
+        WhereTold-from (g.image s) (λ image. (list : List (ℕ × List ℕ)) → journal_of j.volume j.size covers image ≡ Ok list
+        → LeavesOnly g s u (BesideObjects g s (KeepsAbove j.volume j.size covers list)))
+        (λ image told list says.
+        let r = WhereTold-at (g.image s) (IsRead j covers) image told read in
+        let now = both_at (λ old new. (older newer : List (List ℕ)) → StandsFor j old older newer → StandsFor k new [] []) (g.image s) (g.image t) image told first in
+        let next = WhereTold-at (g.image t) (λ image. (older newer : List (List ℕ)) → StandsFor k image older newer
+        → LeavesOnly g t u (BesideObjects g t (ReadsAs k.volume k.size (first_base (after_rotation k covers)) (entries k older newer)))) now.0 now.1 rotate [] [] (now.2 r.older r.newer r.stands) in
+        LeavesOnly-disk_then g s t u (KeepsAbove j.volume j.size covers list) (ReadsAs k.volume k.size (first_base (after_rotation k covers)) (entries k [] [])) (KeepsAbove j.volume j.size covers list)
+        beside (wipe_at s t image list told r says wipe) next (λ left p. p) (λ left q. opened list left (before image list r says) q))
+      where
+        before : (image : List ℕ) (list : List (ℕ × List ℕ)) → IsRead j covers image → journal_of j.volume j.size covers image ≡ Ok list → entries_above covers list ≡ []
+        before image list r says =
+            ap (λ (l : List (ℕ × List ℕ)). entries_above covers l) (sym (list_is j covers image list r says)) ∙ none_above j covers image is low r.older r.newer r.stands
+
+        opened : (list : List (ℕ × List ℕ)) (left : List ℕ) → entries_above covers list ≡ [] → ReadsAs k.volume k.size (first_base (after_rotation k covers)) (entries k [] []) left
+            → KeepsAbove j.volume j.size covers list left
+        opened list left none q =
+            let same : ReadsAs j.volume j.size covers [] left = subst (λ (v : JournalView). ReadsAs v.volume v.size (first_base (after_rotation v covers)) (entries v [] []) left) wipes q in
+            keeps_of j.volume j.size covers covers [] list left same (omega arith) tt (sym none)
+
   module _ (k m : JournalView) (wipes : SameButSpare (wiped j) k) (rotates : SameButSpare (after_rotation k covers) m) (number : covers < max_number) where
     k_is : IsJournal k
     k_is = subst IsJournal (sym wipes) (IsJournal-but (wiped j) k.spare j.down (IsJournal-wiped j is))
@@ -137,10 +160,11 @@ module _ {S : Type 0} (g : Ghosts S) (j : JournalView) (covers : ℕ) (is : IsJo
       disk = ap (λ (v : JournalView). v.disk) m_is;
       pending = ap (λ (v : JournalView). v.pending) m_is;
       down = ap (λ (v : JournalView). v.down) m_is ∙ up;
-      area = subst (λ (v : JournalView). IsSome v.newer) (sym m_is) tt;
+      area = subst (λ (v : JournalView). IsSome v.newer) (sym m_is) refl;
       last = ap (λ (v : JournalView). number_behind v.newer 0) m_is ∙ omega (arith, low);
       begun = λ le. (ap (λ (v : JournalView). v.older) m_is, ap (λ (v : JournalView). v.newer) m_is);
       uncovered = λ lt. absurd (omega (arith, lt, low));
+      kept = λ lt more. absurd (omega (arith, lt, low));
     }
 
     -- it has no entry
@@ -186,29 +210,12 @@ module _ {S : Type 0} (g : Ghosts S) (j : JournalView) (covers : ℕ) (is : IsJo
           let r = WhereTold-at (g.image s) (IsRead j covers) x told read in
           keeps_anew x z list r (two [] [] (one r.older r.newer r.stands)) says)
 
-      pub anew_leaves : SameCloud g s t → WipeMoments g s t j → RotateMoments g t u k covers → LeavesAbove g s u j covers
-      anew_leaves beside wipe rotate =
-          WhereTold-from (g.image s) (λ image. (list : List (ℕ × List ℕ)) → journal_of j.volume j.size covers image ≡ Ok list
-          → LeavesOnly g s u (BesideObjects g s (KeepsAbove j.volume j.size covers list)))
-          (λ image told list says.
-          let r = WhereTold-at (g.image s) (IsRead j covers) image told read in
-          let now = both_at (λ old new. (older newer : List (List ℕ)) → StandsFor j old older newer → StandsFor k new [] []) (g.image s) (g.image t) image told first in
-          let next = WhereTold-at (g.image t) (λ image. (older newer : List (List ℕ)) → StandsFor k image older newer
-          → LeavesOnly g t u (BesideObjects g t (ReadsAs k.volume k.size (first_base (after_rotation k covers)) (entries k older newer)))) now.0 now.1 rotate [] [] (now.2 r.older r.newer r.stands) in
-          LeavesOnly-disk_then g s t u (KeepsAbove j.volume j.size covers list) (ReadsAs k.volume k.size (first_base (after_rotation k covers)) (entries k [] [])) (KeepsAbove j.volume j.size covers list)
-          beside (wipe_at s t image list told r says wipe) next (λ left p. p) (λ left q. opened list left (before image list r says) q))
-        where
-          before : (image : List ℕ) (list : List (ℕ × List ℕ)) → IsRead j covers image → journal_of j.volume j.size covers image ≡ Ok list → entries_above covers list ≡ []
-          before image list r says =
-              ap (λ (l : List (ℕ × List ℕ)). entries_above covers l) (sym (list_is j covers image list r says)) ∙ none_above j covers image is low r.older r.newer r.stands
-
-          opened : (list : List (ℕ × List ℕ)) (left : List ℕ) → entries_above covers list ≡ [] → ReadsAs k.volume k.size (first_base (after_rotation k covers)) (entries k [] []) left
-              → KeepsAbove j.volume j.size covers list left
-          opened list left none q =
-              let same : ReadsAs j.volume j.size covers [] left = subst (λ (v : JournalView). ReadsAs v.volume v.size (first_base (after_rotation v covers)) (entries v [] []) left) wipes q in
-              keeps_of j.volume j.size covers covers [] list left same (omega arith) tt (sym none)
-
 -- ---- closing the older
+
+-- the older area's last number is up to covers
+pub low_from : (o : Option OpenArea) (covers : ℕ) → IfSome o (λ a. a.last ≤ covers) → number_behind o 0 ≤ covers
+low_from None covers le = omega arith
+low_from (Some a) covers le = omega (arith, le)
 
 -- what a crash may leave while it is closed, and for what the journal then stands
 abbrev pub ReleaseMoments : {S : Type 0} → Ghosts S → S → S → JournalView → Type 0
@@ -250,7 +257,24 @@ module _ (j : JournalView) (covers : ℕ) (is : IsJournal j) (low : number_behin
         keeps_of j.volume j.size covers (first_base (without_older j)) (entries (without_older j) [] r.newer) (entries j r.older r.newer) left q (newer_low (based j covers image is r)) rest_all rest_same)
         which)
 
+  module _ {S : Type 0} (g : Ghosts S) (s t : S) (read : WhereTold (g.image s) (IsRead j covers)) where
+    pub released_leaves : ReleaseMoments g s t j → LeavesAbove g s t j covers
+    released_leaves moments =
+        WhereTold-from (g.image s) (λ image. (list : List (ℕ × List ℕ)) → journal_of j.volume j.size covers image ≡ Ok list
+        → LeavesOnly g s t (BesideObjects g s (KeepsAbove j.volume j.size covers list)))
+        (λ image told list says.
+        let r = WhereTold-at (g.image s) (IsRead j covers) image told read in
+        let here = WhereTold-at (g.image s) (λ image. (older newer : List (List ℕ)) → StandsFor j image older newer
+        → LeavesOnly g s t (BesideObjects g s (λ left. Reads j older newer left ⊎ Reads (without_older j) [] newer left))) image told moments r.older r.newer r.stands in
+        leaves_weaker g s t (λ left. Reads j r.older r.newer left ⊎ Reads (without_older j) [] r.newer left) (KeepsAbove j.volume j.size covers list) here
+        (λ left which. release_keeps image r list left says which))
+
   module _ (k : JournalView) (releases : SameButSpare (without_older j) k) where
+    -- an older area that is covered is not one that isn't
+    none_or_low : (o : Option OpenArea) → number_behind o 0 ≤ covers → IfSome o (λ a. covers < a.last) → o ≡ None
+    none_or_low None le lt = refl
+    none_or_low (Some a) le lt = absurd (omega (arith, le, lt))
+
     k_journal : IsJournal k
     k_journal = subst IsJournal (sym releases) (IsJournal-but (without_older j) k.spare j.down (IsJournal-without_older j is))
 
@@ -265,6 +289,7 @@ module _ (j : JournalView) (covers : ℕ) (is : IsJournal j) (low : number_behin
       last = ap (λ (v : JournalView). number_behind v.newer 0) releases ∙ omega (arith, above);
       begun = λ le. absurd (omega (arith, le, above));
       uncovered = λ lt. subst (λ (v : JournalView). IfSome v.older (λ a. covers < a.last)) (sym releases) tt;
+      kept = λ lt more. (ap (λ (v : JournalView). v.older) releases ∙ sym (none_or_low j.older low more), ap (λ (v : JournalView). v.newer) releases);
     }
 
     module _ {S : Type 0} (g : Ghosts S) (s t : S) (read : WhereTold (g.image s) (IsRead j covers)) where
@@ -290,17 +315,6 @@ module _ (j : JournalView) (covers : ℕ) (is : IsJournal j) (low : number_behin
           let q : Reads k [] r.newer y = reads k y [] r.newer k_journal (stands r.older r.newer r.stands) in
           release_keeps x r list y says (inr (subst (λ (v : JournalView). Reads v [] r.newer y) releases q)))
 
-      pub released_leaves : ReleaseMoments g s t j → LeavesAbove g s t j covers
-      released_leaves moments =
-          WhereTold-from (g.image s) (λ image. (list : List (ℕ × List ℕ)) → journal_of j.volume j.size covers image ≡ Ok list
-          → LeavesOnly g s t (BesideObjects g s (KeepsAbove j.volume j.size covers list)))
-          (λ image told list says.
-          let r = WhereTold-at (g.image s) (IsRead j covers) image told read in
-          let here = WhereTold-at (g.image s) (λ image. (older newer : List (List ℕ)) → StandsFor j image older newer
-          → LeavesOnly g s t (BesideObjects g s (λ left. Reads j older newer left ⊎ Reads (without_older j) [] newer left))) image told moments r.older r.newer r.stands in
-          leaves_weaker g s t (λ left. Reads j r.older r.newer left ⊎ Reads (without_older j) [] r.newer left) (KeepsAbove j.volume j.size covers list) here
-          (λ left which. release_keeps image r list left says which))
-
 -- ---- leaving all as it is
 
 pub settled_still : (j : JournalView) (covers : ℕ) → covers < number_behind j.newer 0 → j.pending ≡ [] → j.down ≡ false → IfSome j.older (λ a. covers < a.last) → IsSettled covers j j
@@ -314,6 +328,7 @@ settled_still j covers above none up uncovered = record {
   last = omega (arith, above);
   begun = λ le. absurd (omega (arith, le, above));
   uncovered = λ lt. uncovered;
+  kept = λ lt more. (refl, refl);
 }
 
 module _ {S : Type 0} (g : Ghosts S) (j : JournalView) (covers : ℕ) (s : S) where

@@ -32,7 +32,8 @@ fn begin_anew<D: Disk>(journal: &mut Journal, disk: &mut D, covers: u64) -> Resu
 {
     journal.facts();
     journal.wipe(disk)?;
-    journal.rotate(disk, covers)
+    journal.rotate(disk, covers)?;
+    Ok(())
 }
 
 /// Whether both areas are open, and the older has no entry above this number.
@@ -71,10 +72,9 @@ fn release_covered<D: Disk>(
 {
     journal.facts();
     if older_is_covered(journal, covers) {
-        journal.release(disk)
-    } else {
-        Ok(())
+        journal.release(disk)?;
     }
+    Ok(())
 }
 
 /// Leaves the areas of a journal that was just read ready for changes, where the entries up to covers are kept elsewhere too. Where no entry is
