@@ -1,3 +1,4 @@
+pub mod Claimed
 pub mod Continued
 pub mod Covered
 pub mod Entries
@@ -5,6 +6,7 @@ pub mod Finds
 pub mod Keeps
 pub mod Lists
 pub mod Moments
+pub mod Opened
 pub mod Puts
 pub mod Refused
 pub mod Settled
