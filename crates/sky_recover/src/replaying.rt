@@ -161,7 +161,7 @@ fn replay_next<D: Disk>(
 }
 
 /// Does all changes of a journal again, in order, from the tree that they were made on. Nothing is kept elsewhere, so that its first entry has
-/// the number 1, and an area is open. It only looks at the disk.
+/// the number 1. It only looks at the disk.
 ///
 /// `Foreign` where the answer to a change is not OK, with the place at which its entry lies; or where the disk gives other bytes than when the
 /// journal was read. After each fault the tree has some of the changes.
@@ -181,9 +181,10 @@ pub(crate) fn replay<D: Disk>(
     ensures cause { Counts (D.disk_faults disk.old) (D.disk_faults disk.new) (IsErrOf result DiskFault) }
     ensures cloud { D.cloud_faults disk.new ≡ D.cloud_faults disk.old }
 {
+    journal.facts();
     let mut place = journal.first();
     let mut entry = Vec::new(alloc);
-    for _done in 0..journal.stored() {
+    'entries: for _done in 0..journal.stored() {
         replay_next(alloc, journal, disk, &mut place, &mut entry, tree)?;
     }
     Ok(())
