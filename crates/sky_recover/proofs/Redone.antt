@@ -19,17 +19,6 @@ change_read : (bytes : List ℕ) (x : Change × ℕ) → entry_at bytes ≡ Some
 unfolding change_of
 change_read bytes x e = ap (λ (o : Option (Change × ℕ)). option_and_then (if_whole bytes) o) e
 
-is_whole : (b : Bool) (c : Change) → is_some (if b then Some c else None) ≡ b
-is_whole true c = refl
-is_whole false c = refl
-
-pub of_change_if : (bytes : List ℕ) (x : Change × ℕ) → entry_at bytes ≡ Some x → (x.1 == length bytes) ≡ is_of_change bytes
-of_change_if bytes x e = sym (ap (λ (o : Option Change). is_some o) (change_read bytes x e) ∙ is_whole (x.1 == length bytes) x.0)
-
-pub of_none : (bytes : List ℕ) → entry_at bytes ≡ None → is_of_change bytes ≡ false
-unfolding change_of
-of_none bytes e = ap (λ (o : Option (Change × ℕ)). is_some (option_and_then (if_whole bytes) o)) e
-
 by_length : (n m : ℕ) (c : Change) (o : Option Change) (b : Bool) → (n == m) ≡ b → o ≡ (if b then Some c else None) → IsTrue (is_some o) → (n ≡ m) × (o ≡ Some c)
 by_length n m c o true e is found = (eqb-true n m e, is)
 by_length n m c o false e is found = let none = subst (λ (x : Option Change). IsTrue (is_some x)) is found in absurd cc

@@ -49,15 +49,15 @@ pub record KeepsAreas (volume size : ℕ) (found : Found) (image : List ℕ) : T
 
 -- It was found on this site: a legal history, whichever the site is, that begins where its cloud ends. Where the site tells what it has,
 -- it is the history that the site stands for.
-pub record IsFoundOn {S : Type 0} (g : Ghosts S) (volume size : ℕ) (s : S) (found : Found) : Type 0 where
+pub record IsFoundOn {S : Type 0} (g : Ghosts S) (number area : ℕ) (s : S) (found : Found) : Type 0 where
   pub legal : IsLegalHistory found.history
   pub storable : AllByRecursion IsStorable found.history.changes
-  pub volume : found.history.tree.volume ≡ volume
-  pub journal_volume : found.journal.volume ≡ volume
-  pub journal_size : found.journal.size ≡ size
-  pub history : WhereBothTold g s (λ image objects. history_of volume size image objects ≡ Ok found.history)
-  pub cloud : WhereTold (g.objects s) (BeginsAt volume found)
-  pub areas : WhereTold (g.image s) (KeepsAreas volume size found)
+  pub volume : found.history.tree.volume ≡ number
+  pub journal_volume : found.journal.volume ≡ number
+  pub journal_size : found.journal.size ≡ area
+  pub history : WhereBothTold g s (λ image objects. history_of number area image objects ≡ Ok found.history)
+  pub cloud : WhereTold (g.objects s) (BeginsAt number found)
+  pub areas : WhereTold (g.image s) (KeepsAreas number area found)
 
 -- over this image the journal has the entries of the history's changes by their numbers, and those that are appended follow them
 pub record HasEntries (journal : JournalView) (history : History) (image : List ℕ) : Type 0 where

@@ -1,5 +1,5 @@
 -- What doing the changes of a journal again leads to.
-use Rattle.std.specs.Prelude.{◌≡◌, ◌⊎◌, ℕ, true, false, IsTrue, List, [], ◌∷◌, ◌++◌, length, Some, Ok, Err}
+use Rattle.std.specs.Prelude.{◌≡◌, ◌⊎◌, ℕ, true, false, IsTrue, List, [], ◌∷◌, ◌++◌, length, map, Some, Ok, Err}
 use Rattle.std.specs.List.{AllByRecursion}
 use Rattle.sky_nfs.specs.History.{are_done, is_done, tree_after_change, tree_after_changes}
 use Rattle.sky_nfs.specs.Tree.{Tree}
@@ -10,6 +10,7 @@ use Rattle.sky_outside.specs.Told.{WhereTold}
 use Rattle.sky_outside.specs.declared.storage.Storage.{Ghosts}
 use Rattle.sky_journal.specs.Journal.{JournalView, number_behind}
 use Rattle.sky_journal.specs.Place.{Left}
+use Rattle.sky_journal.specs.Text.{numbered}
 use Rattle.sky_journal.specs.declared.place.Place.{Place}
 use Rattle.sky_sound.specs.Entries.{IsStorable, change_of, changes_in, entries_above, is_of_change, journal_of}
 
@@ -74,3 +75,4 @@ pub record IsReplayed {S : Type 0} (g : Ghosts S) (j : JournalView) (s : S) (sta
   pub storable : AllByRecursion IsStorable changes
   pub count : length changes ≡ number_behind j.newer 0
   pub told : WhereTold (g.image s) (λ image. (list : List (ℕ × List ℕ)) → journal_of j.volume j.size 0 image ≡ Ok list → changes ≡ changes_in (entries_above 0 list))
+  pub encoded : WhereTold (g.image s) (λ image. (list : List (ℕ × List ℕ)) → journal_of j.volume j.size 0 image ≡ Ok list → entries_above 0 list ≡ numbered 0 (map entry_bytes changes))

@@ -6,7 +6,7 @@ ghost use Rattle.sky_nfs.specs.Tree.{empty_tree};
 ghost use Rattle.sky_journal.specs.Journal.{IsJournal, StandsOn};
 ghost use Rattle.sky_outside.specs.CloudMap.{after_put, Happened, HappenedOrNot};
 ghost use Rattle.sky_outside.specs.Count.{Counts};
-ghost use Rattle.sky_outside.specs.Moments.{BesideObjects, LeavesOnly, NothingPending, SameCloud};
+ghost use Rattle.sky_outside.specs.Moments.{LeavesOnly, NothingPending, SameCloud};
 ghost use Rattle.sky_outside.specs.Told.{BothTold, WhereTold};
 ghost use Rattle.sky_sound.specs.Boot.{boot_bytes, boot_name, claimed};
 ghost use Rattle.sky_sound.specs.Entries.{entries_above, journal_of};
@@ -15,8 +15,8 @@ ghost use Rattle.sky_recover.specs.Faults.{IsOfJournal};
 ghost use Rattle.sky_recover.specs.Opening.{IsOpened, LeavesFound, WhereBothTold};
 ghost use Rattle.sky_recover.specs.Refusals.{IsJudged, IsOfDevices, IsOfReading, IsRefusedBy};
 ghost use Rattle.sky_recover.specs.Replaying.{FailsAt};
-ghost use Rattle.sky_recover.specs.Settling.{IsRead, KeepsAbove};
-ghost use Rattle.sky_recover.specs.Steps.{IsContinued, PutsOrNot};
+ghost use Rattle.sky_recover.specs.Settling.{IsRead};
+ghost use Rattle.sky_recover.specs.Steps.{IsContinued, KeepsEntries, PutsOrNot};
 ghost use Rattle.sky_recover.specs.declared.fault.OpenFault.TheVariants.{CloudFault, DiskFault, Foreign};
 
 use crate::boot::claim_epoch;
@@ -91,8 +91,7 @@ fn continue_from<D: Disk>(
     ensures is { IfOk result (λ d. IsJournal d.journal) }
     ensures foreign { (at : ℕ) → IsErrOf result (Foreign at) → WhereTold (D.image disk.old) (λ image. (list : List (ℕ × List ℕ))
         → journal_of journal.volume journal.size 0 image ≡ Ok list → FailsAt (empty_tree volume) (entries_above 0 list) image at) }
-    ensures any_moment { WhereTold (D.image disk.old) (λ image. (list : List (ℕ × List ℕ)) → journal_of journal.volume journal.size 0 image ≡ Ok list
-        → LeavesOnly D.Storage disk.old disk.new (BesideObjects D.Storage disk.old (KeepsAbove journal.volume journal.size 0 list))) }
+    ensures any_moment { KeepsEntries D.Storage journal.volume journal.size disk.old disk.new }
     ensures tells { OnOk result (BothTold (λ old new. Unit {0}) (D.image disk.old) (D.image disk.new)) }
     ensures faults { IsOfJournal result }
     ensures beside { SameCloud D.Storage disk.old disk.new }

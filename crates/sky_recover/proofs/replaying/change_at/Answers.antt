@@ -1,4 +1,6 @@
-use Rattle.sky_recover.proofs.Redone.{of_none, storable, whose}
+use Rattle.std.proofs.Common.{sym}
+use Rattle.sky_recover.proofs.Redone.{storable, whose}
+use Rattle.sky_recover.proofs.Spelled.{not_spelled}
 use Rattle.sky_recover.proofs.replaying.change_at.Goals as goal
 
 pub returns-in-Ok-clause-whose : goal.returns-in-Ok-clause-whose
@@ -8,4 +10,4 @@ pub returns-in-Ok-clause-storable : goal.returns-in-Ok-clause-storable
 returns-in-Ok-clause-storable c = storable _ c.in-Ok.change c.in-Ok.ensures.found
 
 pub returns-in-Err-Bad-clause-foreign : goal.returns-in-Err-Bad-clause-foreign
-returns-in-Err-Bad-clause-foreign c = λ place is. (cc, of_none c.args.entry.now (rw c.in-Err-Bad.field-0-is at c.in-Err-Bad.ensures.exact))
+returns-in-Err-Bad-clause-foreign c = λ place is. (cc, sym (not_spelled c.args.entry.now (rw c.in-Err-Bad.field-0-is at c.in-Err-Bad.ensures.exact)))
