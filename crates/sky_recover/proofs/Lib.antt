@@ -5,9 +5,12 @@ pub mod Entries
 pub mod Finds
 pub mod Keeps
 pub mod Lists
+pub mod Lying
 pub mod Moments
 pub mod Opened
 pub mod Puts
+pub mod Redone
 pub mod Refused
+pub mod Replays
 pub mod Settled
 pub mod Spelled

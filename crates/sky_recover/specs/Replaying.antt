@@ -8,7 +8,7 @@ use Rattle.sky_entry.specs.Entry.{entry_bytes}
 use Rattle.sky_outside.specs.Image.{bytes_at}
 use Rattle.sky_outside.specs.Told.{WhereTold}
 use Rattle.sky_outside.specs.declared.storage.Storage.{Ghosts}
-use Rattle.sky_journal.specs.Journal.{JournalView, StandsFor, number_behind}
+use Rattle.sky_journal.specs.Journal.{JournalView, number_behind}
 use Rattle.sky_journal.specs.Place.{Left}
 use Rattle.sky_journal.specs.Text.{numbered}
 use Rattle.sky_journal.specs.declared.place.Place.{Place}
@@ -35,6 +35,18 @@ pub record IsRefused (tree : Tree) (entry : List ℕ) : Type 0 where
 -- these bytes lie at a place of an image
 abbrev pub LiesAt : List ℕ → List ℕ → ℕ → Type 0
 LiesAt image bytes at = bytes_at image at (length bytes) ≡ bytes
+
+-- ---- the next entry of a journal
+
+-- the change is that of the next entry, where one is left at a place, and behind the entry is another place
+abbrev pub DoesNext : JournalView → Place → Place → Change → List ℕ → Type 0
+DoesNext j place next change image =
+    (e : ℕ × List ℕ) (rest : List (ℕ × List ℕ)) → Left j image place (e ∷ rest) → IsTrue (is_of_change e.1) → IsWhose e.1 change × Left j image next rest
+
+-- the next entry, where one is left at a place, is that of a change that is not answered OK, and it lies here
+abbrev pub FailsNext : JournalView → Place → Tree → ℕ → List ℕ → Type 0
+FailsNext j place tree at image =
+    (e : ℕ × List ℕ) (rest : List (ℕ × List ℕ)) → Left j image place (e ∷ rest) → IsTrue (is_of_change e.1) → IsRefused tree e.1 × LiesAt image e.1 at
 
 -- ---- all of them
 

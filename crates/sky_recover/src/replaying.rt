@@ -1,6 +1,6 @@
 //! Doing the changes of a journal again.
 
-ghost use Rattle.std.specs.Prelude.{◌≡◌, ◌+◌, ℕ, List, ◌∷◌, [], false, true, IfOk, IfSome, IsErrOf, IsSome, IsTrue, Ok, OnOk};
+ghost use Rattle.std.specs.Prelude.{◌≡◌, ◌+◌, ◌-◌, ◌^◌, min, ℕ, List, ◌∷◌, false, true, None, IfOk, IfSome, IsErrOf, IsTrue, Ok, OnOk, if◌then◌else◌};
 ghost use Rattle.sky_nfs.specs.Calls.{is_change};
 ghost use Rattle.sky_nfs.specs.History.{is_done};
 ghost use Rattle.sky_calls.specs.Stable.{succeeded};
@@ -8,11 +8,10 @@ ghost use Rattle.sky_nfs.specs.declared.call.Change.{Change};
 ghost use Rattle.sky_outside.specs.Count.{Counts};
 ghost use Rattle.sky_outside.specs.Moments.{OnlyLooks};
 ghost use Rattle.sky_outside.specs.Told.{WhereTold};
-ghost use Rattle.sky_journal.specs.Journal.{StandsFor};
-ghost use Rattle.sky_journal.specs.Place.{Left};
-ghost use Rattle.sky_sound.specs.Entries.{entries_above, is_of_change, journal_of};
+ghost use Rattle.sky_journal.specs.Place.{Left, start_in};
+ghost use Rattle.sky_sound.specs.Entries.{entries_above, is_of_change, IsStorable, journal_of};
 ghost use Rattle.sky_recover.specs.Faults.{IsOfEntry, IsOfJournal};
-ghost use Rattle.sky_recover.specs.Replaying.{FailsAt, IsRedone, IsRefused, IsReplayed, IsWhose, LiesAt};
+ghost use Rattle.sky_recover.specs.Replaying.{DoesNext, FailsAt, FailsNext, IsRedone, IsRefused, IsReplayed, IsWhose, LiesAt};
 ghost use Rattle.sky_recover.specs.Settling.{IsRead};
 ghost use Rattle.sky_recover.specs.declared.fault.OpenFault.TheVariants.{DiskFault, Foreign};
 
@@ -49,11 +48,12 @@ fn is_ok(answer: &Answer) -> bool
 fn change_at(alloc: Global, entry: &[u8], at: u64) -> Result<Change, OpenFault>
     ensures whose { IfOk result (λ change. IsTrue (is_of_change entry.now) → IsWhose entry.now change) }
     ensures changes { IfOk result (λ change. IsTrue (is_change change.call)) }
+    ensures storable { IfOk result IsStorable }
     ensures foreign { (place : ℕ) → IsErrOf result (Foreign place) → (place ≡ at) × (is_of_change entry.now ≡ false) }
     ensures faults { IsOfEntry result }
 {
     match read_entry(alloc, entry) {
-        Ok(found) => Ok(found.0),
+        Ok((change, _)) => Ok(change),
         Err(EntryFault::Bad) => Err(OpenFault::Foreign { at }),
         Err(EntryFault::Memory) => Err(OpenFault::Memory),
     }
@@ -80,7 +80,8 @@ fn redo_change(tree: &mut Tree, change: &Change, at: u64) -> Result<(), OpenFaul
 
 /// Does the change of an entry that lies at this place of the disk.
 fn redo(alloc: Global, tree: &mut Tree, entry: &[u8], at: u64) -> Result<(), OpenFault>
-    ensures redone { OnOk result ((change : Change) × IsRedone tree.old change tree.new × (IsTrue (is_of_change entry.now) → IsWhose entry.now change)) }
+    ensures redone { OnOk result ((change : Change) × IsRedone tree.old change tree.new × IsStorable change
+        × (IsTrue (is_of_change entry.now) → IsWhose entry.now change)) }
     ensures foreign { (place : ℕ) → IsErrOf result (Foreign place) → (place ≡ at) × (IsTrue (is_of_change entry.now) → IsRefused tree.old entry.now) }
     ensures faults { IsOfEntry result }
 {
@@ -91,7 +92,7 @@ fn redo(alloc: Global, tree: &mut Tree, entry: &[u8], at: u64) -> Result<(), Ope
 /// Whether the older area has no entry behind this place, which is in it.
 fn is_past(journal: &Journal, place: Place) -> bool
     ensures older { result ≡ false → place.newer ≡ false → IfSome journal.now.older (λ a. place.last ≡ a.last → ⊥) }
-    ensures some { result ≡ false → place.newer ≡ false → IsSome journal.now.older }
+    ensures some { result ≡ false → place.newer ≡ false → journal.now.older ≡ None → ⊥ }
     ensures past { result ≡ true → (place.newer ≡ false) × IfSome journal.now.older (λ a. place.last ≡ a.last) }
 {
     journal.facts();
@@ -104,25 +105,32 @@ fn is_past(journal: &Journal, place: Place) -> bool
     journal.base() == Some(place.last)
 }
 
-/// Where on the disk the entry behind a place lies, in bytes, where one is left there: behind the header of the next batch, where none is left
-/// of the place's own.
-fn entry_position(journal: &Journal, place: Place) -> u64
-    ensures { (image : List ℕ) (older newer : List (List ℕ)) (e : ℕ × List ℕ) (rest : List (ℕ × List ℕ)) → StandsFor journal.now image older newer
-        → Left journal.now image place (e ∷ rest) → LiesAt image e.1 result }
+/// Where on the disk the body of the batch begins that has its gate at this place of the newer or the older area, in bytes.
+fn body_behind(journal: &Journal, newer: bool, gate: u64) -> u64
+    ensures { result ≡ min (start_in (if newer then journal.now.newer else journal.now.older) + (gate + 16)) (2 ^ 64 - 1) }
 {
-    journal.facts();
-    if place.left > 0 {
-        return journal.position(place);
-    }
-    let past = is_past(journal, place);
-    let gate = if past { 64 } else { place.end };
     journal.position(Place {
-        newer: past || place.newer,
+        newer,
         at: gate.saturating_add(16),
         left: 0,
         end: gate,
-        last: place.last,
+        last: 0,
     })
+}
+
+/// Where on the disk the entry behind a place lies, in bytes, where one is left there: behind the header of the next batch, where none is left
+/// of the place's own.
+fn entry_position(journal: &Journal, place: Place) -> u64
+    ensures { (image : List ℕ) (e : ℕ × List ℕ) (rest : List (ℕ × List ℕ)) → Left journal.now image place (e ∷ rest) → LiesAt image e.1 result }
+{
+    journal.facts();
+    if is_past(journal, place) {
+        return body_behind(journal, true, 64);
+    }
+    if place.left > 0 {
+        return journal.position(place);
+    }
+    body_behind(journal, place.newer, place.end)
 }
 
 /// Does the change of the next entry of a journal, and moves the place past it. Where none is left, which a disk may feign that gives other
@@ -136,12 +144,9 @@ fn replay_next<D: Disk>(
     tree: &mut Tree,
 ) -> Result<(), OpenFault>
     requires { D.bytes_of disk.old ≡ journal.now.disk }
-    ensures redone { OnOk result ((change : Change) × IsRedone tree.old change tree.new × WhereTold (D.image disk.old)
-        (λ image. (e : ℕ × List ℕ) (rest : List (ℕ × List ℕ)) → Left journal.now image place.old (e ∷ rest) → IsTrue (is_of_change e.1)
-        → IsWhose e.1 change × Left journal.now image place.new rest)) }
-    ensures foreign { (at : ℕ) → IsErrOf result (Foreign at) → WhereTold (D.image disk.old) (λ image. (older newer : List (List ℕ)) (e : ℕ × List ℕ)
-        (rest : List (ℕ × List ℕ)) → StandsFor journal.now image older newer → Left journal.now image place.old (e ∷ rest) → IsTrue (is_of_change e.1)
-        → IsRefused tree.old e.1 × LiesAt image e.1 at) }
+    ensures redone { OnOk result ((change : Change) × IsRedone tree.old change tree.new × IsStorable change
+        × WhereTold (D.image disk.old) (DoesNext journal.now place.old place.new change)) }
+    ensures foreign { (at : ℕ) → IsErrOf result (Foreign at) → WhereTold (D.image disk.old) (FailsNext journal.now place.old tree.old at) }
     ensures faults { IsOfJournal result }
     ensures looks { OnlyLooks D.Storage disk.old disk.new }
     ensures cause { Counts (D.disk_faults disk.old) (D.disk_faults disk.new) (IsErrOf result DiskFault) }
@@ -156,7 +161,7 @@ fn replay_next<D: Disk>(
 }
 
 /// Does all changes of a journal again, in order, from the tree that they were made on. Nothing is kept elsewhere, so that its first entry has
-/// the number 1, and an area is open. It only looks at the disk.
+/// the number 1. It only looks at the disk.
 ///
 /// `Foreign` where the answer to a change is not OK, with the place at which its entry lies; or where the disk gives other bytes than when the
 /// journal was read. After each fault the tree has some of the changes.
@@ -167,7 +172,6 @@ pub(crate) fn replay<D: Disk>(
     tree: &mut Tree,
 ) -> Result<(), OpenFault>
     requires size { D.bytes_of disk.old ≡ journal.now.disk }
-    requires pending { journal.now.pending ≡ [] }
     requires read { WhereTold (D.image disk.old) (IsRead journal.now 0) }
     ensures replayed { OnOk result (IsReplayed D.Storage journal.now disk.old tree.old tree.new) }
     ensures foreign { (at : ℕ) → IsErrOf result (Foreign at) → WhereTold (D.image disk.old) (λ image. (list : List (ℕ × List ℕ))
@@ -177,9 +181,10 @@ pub(crate) fn replay<D: Disk>(
     ensures cause { Counts (D.disk_faults disk.old) (D.disk_faults disk.new) (IsErrOf result DiskFault) }
     ensures cloud { D.cloud_faults disk.new ≡ D.cloud_faults disk.old }
 {
+    journal.facts();
     let mut place = journal.first();
     let mut entry = Vec::new(alloc);
-    for _done in 0..journal.stored() {
+    'entries: for _done in 0..journal.stored() {
         replay_next(alloc, journal, disk, &mut place, &mut entry, tree)?;
     }
     Ok(())
