@@ -1,6 +1,7 @@
 pub mod Claimed
 pub mod Continued
 pub mod Covered
+pub mod Ends
 pub mod Entries
 pub mod Finds
 pub mod Keeps
