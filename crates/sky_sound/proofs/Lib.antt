@@ -1,5 +1,6 @@
 pub mod Above
 pub mod Bases
 pub mod Blank
+pub mod Claims
 pub mod Clouds
 pub mod Texts

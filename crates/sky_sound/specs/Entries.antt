@@ -1,8 +1,9 @@
 -- The changes that the journal of a disk has.
-use Rattle.std.specs.Prelude.{ℕ, Bool, ◌==◌, nat_lt, List, [], ◌∷◌, length, Option, Some, None, is_some, IsTrue, if◌then◌else◌}
+use Rattle.std.specs.Prelude.{◌≡◌, ℕ, Bool, ◌==◌, nat_lt, List, [], ◌∷◌, length, Option, Some, None, is_some, IsTrue, if◌then◌else◌}
 use Rattle.std.specs.List.{AllByRecursion}
 use Rattle.std.specs.Option.{option_and_then}
 use Rattle.sky_nfs.specs.declared.call.Change.{Change}
+use Rattle.sky_entry.specs.Entry.{entry_bytes}
 use Rattle.sky_entry.specs.Reading.{entry_at}
 use Rattle.sky_journal.specs.Text.{Read, entries_of}
 
@@ -17,6 +18,10 @@ change_of bytes = option_and_then (if_whole bytes) (entry_at bytes)
 -- whether bytes are the entry of a change
 abbrev pub is_of_change : List ℕ → Bool
 is_of_change bytes = is_some (change_of bytes)
+
+-- a change whose entry is read as that change
+abbrev pub IsStorable : Change → Type 0
+IsStorable change = change_of (entry_bytes change) ≡ Some change
 
 -- what a disk says as the journal of a volume: the entries of changes with their numbers, or the place at which it is foreign
 abbrev pub journal_of : (volume size covers : ℕ) → (image : List ℕ) → Read (List (ℕ × List ℕ))

@@ -1,3 +1,4 @@
+pub mod Boot
 pub mod Cloud
 pub mod Entries
 pub mod Recovery

@@ -1,12 +1,13 @@
 //! What holds of the definitions as such. A call of these functions does nothing: each of their clauses is a law that is proved.
 
-ghost use Rattle.std.specs.Prelude.{◌≡◌, ℕ, ◌*◌, ◌≤◌, List, None, Ok, replicate};
+ghost use Rattle.std.specs.Prelude.{◌≡◌, ℕ, ◌+◌, ◌*◌, ◌≤◌, List, None, Ok, replicate};
 ghost use Rattle.sky_base.specs.Limits.{max_volume};
 ghost use Rattle.sky_nfs.specs.History.{History, history_length, last_tree};
 ghost use Rattle.sky_nfs.specs.Tree.{empty_tree};
 ghost use Rattle.sky_outside.specs.CloudMap.{CloudMap};
-ghost use Rattle.sky_sound.specs.Cloud.{checkpoint_in};
-ghost use Rattle.sky_sound.specs.Recovery.{history_of, IsSound, recovered};
+ghost use Rattle.sky_sound.specs.Boot.{claimed};
+ghost use Rattle.sky_sound.specs.Cloud.{checkpoint_in, epoch_after};
+ghost use Rattle.sky_sound.specs.Recovery.{history_of, FindsSame, IsSound, recovered};
 
 use sky_nfs::valid_trees_stay_valid;
 
@@ -26,4 +27,13 @@ pub fn history_is_what_is_recovered()
     ensures { (volume size : ℕ) (image : List ℕ) (objects : CloudMap) (history : History)
         → history_of volume size image objects ≡ Ok history
         → recovered volume size image objects ≡ Ok (record { length = history_length history; tree = last_tree history }) }
+{}
+
+/// Once the boot object of the next epoch was put, the next epoch is one more; no checkpoint is listed that was not; and a sound
+/// site stays sound, and recovery finds the same.
+pub fn a_boot_object_claims_its_epoch()
+    ensures epoch { (objects : CloudMap) → epoch_after (claimed objects) ≡ epoch_after objects + 1 }
+    ensures checkpoint { (objects : CloudMap) → checkpoint_in (claimed objects) ≡ checkpoint_in objects }
+    ensures sound { (volume size : ℕ) (image : List ℕ) (objects : CloudMap) → IsSound volume size image objects
+        → FindsSame volume size image objects image (claimed objects) }
 {}

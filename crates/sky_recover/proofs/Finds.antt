@@ -1,0 +1,52 @@
+-- What recovery finds on a site of which the entries above covers and the last checkpoint are as they were. Crates above cite this.
+use Rattle.std.proofs.Common.{◌≡◌, ℕ, List, Ok, refl, sym, ap, ◌∙◌}
+use Rattle.sky_outside.specs.CloudMap.{CloudMap}
+use Rattle.sky_nfs.specs.History.{History, tree_after_changes}
+use Rattle.sky_journal.specs.Text.{Read}
+use Rattle.sky_sound.specs.Boot.{claimed}
+use Rattle.sky_sound.specs.Cloud.{checkpoint_in, covers_of, cloud_tree}
+use Rattle.sky_sound.specs.Entries.{changes_in, entries_above, journal_of, last_number}
+use Rattle.sky_sound.specs.Recovery.{Recovered, recovered, history_of, IsSound, FindsSame}
+use Rattle.sky_sound.proofs.Above.{recovered_is, history_is, history_from_entries}
+use Rattle.sky_sound.proofs.Claims.{checkpoint_in-claimed}
+use Rattle.sky_recover.specs.Settling.{KeepsAbove}
+
+module _ (volume size : ℕ) (image : List ℕ) (objects : CloudMap) where
+  -- a sound site is found as it is
+  pub finds_itself : IsSound volume size image objects → FindsSame volume size image objects image objects
+  finds_itself is = record { sound = is; same = refl }
+
+  -- the entries that a sound site says
+  pub sound_entries : IsSound volume size image objects → (list : List (ℕ × List ℕ)) × (journal_of volume size 0 image ≡ Ok list)
+  sound_entries is = let found = history_from_entries volume size image objects is.history is.stands_for in (found.0, found.1)
+
+  -- the history and what is found, of these entries above covers
+  history_by : List (ℕ × List ℕ) → Read History
+  history_by above = Ok (record { before = 0; tree = cloud_tree volume objects; changes = changes_in above })
+
+  found_by : List (ℕ × List ℕ) → Read Recovered
+  found_by above = Ok (record { length = last_number 0 above; tree = tree_after_changes (cloud_tree volume objects) (changes_in above) })
+
+  history_is_by : (left : List ℕ) (held : CloudMap) (list : List (ℕ × List ℕ)) → journal_of volume size 0 left ≡ Ok list → history_of volume size left held ≡ history_by (entries_above 0 list)
+  unfolding history_by
+  history_is_by left held list says = history_is volume size left held list says
+
+  recovered_is_by : (left : List ℕ) (held : CloudMap) (list : List (ℕ × List ℕ)) → journal_of volume size 0 left ≡ Ok list → recovered volume size left held ≡ found_by (entries_above 0 list)
+  unfolding found_by
+  recovered_is_by left held list says = recovered_is volume size left held list says
+
+  -- the same entries above covers, and a cloud in which the next epoch was claimed
+  pub finds_claimed : (left : List ℕ) (list : List (ℕ × List ℕ)) → IsSound volume size image objects → journal_of volume size 0 image ≡ Ok list → KeepsAbove volume size 0 list left
+      → FindsSame volume size image objects left (claimed objects)
+  finds_claimed left list is says keeps = record {
+    sound = record {
+      no_checkpoint = checkpoint_in-claimed objects ∙ is.no_checkpoint;
+      history = is.history;
+      stands_for = history_is_by left (claimed objects) keeps.read keeps.says
+          ∙ ap history_by keeps.above
+          ∙ sym (history_is_by image objects list says)
+          ∙ is.stands_for;
+      legal = is.legal;
+    };
+    same = recovered_is_by left (claimed objects) keeps.read keeps.says ∙ ap found_by keeps.above ∙ sym (recovered_is_by image objects list says);
+  }

@@ -1,0 +1,78 @@
+-- What doing the changes of a journal again leads to.
+use Rattle.std.specs.Prelude.{◌≡◌, ◌⊎◌, ℕ, true, false, IsTrue, List, [], ◌∷◌, ◌++◌, length, map, Some, Ok, Err}
+use Rattle.std.specs.List.{AllByRecursion}
+use Rattle.sky_nfs.specs.History.{are_done, is_done, tree_after_change, tree_after_changes}
+use Rattle.sky_nfs.specs.Tree.{Tree}
+use Rattle.sky_nfs.specs.declared.call.Change.{Change}
+use Rattle.sky_entry.specs.Entry.{entry_bytes}
+use Rattle.sky_outside.specs.Image.{bytes_at}
+use Rattle.sky_outside.specs.Told.{WhereTold}
+use Rattle.sky_outside.specs.declared.storage.Storage.{Ghosts}
+use Rattle.sky_journal.specs.Journal.{JournalView, number_behind}
+use Rattle.sky_journal.specs.Place.{Left}
+use Rattle.sky_journal.specs.Text.{numbered}
+use Rattle.sky_journal.specs.declared.place.Place.{Place}
+use Rattle.sky_sound.specs.Entries.{IsStorable, change_of, changes_in, entries_above, is_of_change, journal_of}
+
+-- ---- one entry
+
+-- a change was done, and was answered OK
+pub record IsRedone (old : Tree) (change : Change) (new : Tree) : Type 0 where
+  pub done : is_done old change ≡ true
+  pub tree_is : new ≡ tree_after_change old change
+
+-- bytes are the entry of this change, where they are one of a change at all
+pub record IsWhose (entry : List ℕ) (change : Change) : Type 0 where
+  pub change_is : change_of entry ≡ Some change
+  pub encoded : entry ≡ entry_bytes change
+
+-- bytes are the entry of a change that is not answered OK
+pub record IsRefused (tree : Tree) (entry : List ℕ) : Type 0 where
+  pub change : Change
+  pub change_is : change_of entry ≡ Some change
+  pub refused : is_done tree change ≡ false
+
+-- these bytes lie at a place of an image
+abbrev pub LiesAt : List ℕ → List ℕ → ℕ → Type 0
+LiesAt image bytes at = bytes_at image at (length bytes) ≡ bytes
+
+-- ---- the next entry of a journal
+
+-- the change is that of the next entry, where one is left at a place, and behind the entry is another place
+abbrev pub DoesNext : JournalView → Place → Place → Change → List ℕ → Type 0
+DoesNext j place next change image =
+    (e : ℕ × List ℕ) (rest : List (ℕ × List ℕ)) → Left j image place (e ∷ rest) → IsTrue (is_of_change e.1) → IsWhose e.1 change × Left j image next rest
+
+-- the next entry, where one is left at a place, is that of a change that is not answered OK, and it lies here
+abbrev pub FailsNext : JournalView → Place → Tree → ℕ → List ℕ → Type 0
+FailsNext j place tree at image =
+    (e : ℕ × List ℕ) (rest : List (ℕ × List ℕ)) → Left j image place (e ∷ rest) → IsTrue (is_of_change e.1) → IsRefused tree e.1 × LiesAt image e.1 at
+
+-- ---- all of them
+
+-- The changes of entries fail at a place: from a tree on each of the first ones is answered OK, and that of the next entry, which lies there, is not.
+pub record FailsAt (start : Tree) (list : List (ℕ × List ℕ)) (image : List ℕ) (at : ℕ) : Type 0 where
+  pub before : List (ℕ × List ℕ)
+  pub entry : ℕ × List ℕ
+  pub behind : List (ℕ × List ℕ)
+  pub parts : list ≡ before ++ entry ∷ behind
+  pub done : IsTrue (are_done start (changes_in before))
+  pub refused : IsRefused (tree_after_changes start (changes_in before)) entry.1
+  pub lies : LiesAt image entry.1 at
+
+-- An image is foreign at a place: it is not a journal of the volume there; or it is one, whose entries above covers fail there.
+abbrev pub IsForeignAt : (volume size covers : ℕ) → (start : Tree) → (image : List ℕ) → (at : ℕ) → Type 0
+IsForeignAt volume size covers start image at =
+    (journal_of volume size covers image ≡ Err at)
+    ⊎ ((list : List (ℕ × List ℕ)) × (journal_of volume size covers image ≡ Ok list) × FailsAt start (entries_above covers list) image at)
+
+-- Doing a journal's changes again led from a tree to this one, by changes that were each answered OK: as many as the journal's last number
+-- says. Where the disk tells what it has, they are those of the journal.
+pub record IsReplayed {S : Type 0} (g : Ghosts S) (j : JournalView) (s : S) (start tree : Tree) : Type 0 where
+  pub changes : List Change
+  pub tree_is : tree ≡ tree_after_changes start changes
+  pub done : IsTrue (are_done start changes)
+  pub storable : AllByRecursion IsStorable changes
+  pub count : length changes ≡ number_behind j.newer 0
+  pub told : WhereTold (g.image s) (λ image. (list : List (ℕ × List ℕ)) → journal_of j.volume j.size 0 image ≡ Ok list → changes ≡ changes_in (entries_above 0 list))
+  pub encoded : WhereTold (g.image s) (λ image. (list : List (ℕ × List ℕ)) → journal_of j.volume j.size 0 image ≡ Ok list → entries_above 0 list ≡ numbered 0 (map entry_bytes changes))
