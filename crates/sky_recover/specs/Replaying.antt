@@ -1,5 +1,5 @@
 -- What doing the changes of a journal again leads to.
-use Rattle.std.specs.Prelude.{◌≡◌, ◌⊎◌, ℕ, true, false, IsTrue, List, [], ◌∷◌, ◌++◌, length, map, Some, Ok, Err}
+use Rattle.std.specs.Prelude.{◌≡◌, ◌⊎◌, ℕ, true, false, IsTrue, List, ◌∷◌, ◌++◌, length, map, Some, Ok, Err}
 use Rattle.std.specs.List.{AllByRecursion}
 use Rattle.sky_nfs.specs.History.{are_done, is_done, tree_after_change, tree_after_changes}
 use Rattle.sky_nfs.specs.Tree.{Tree}
