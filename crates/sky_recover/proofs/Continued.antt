@@ -1,6 +1,7 @@
 -- What came of a journal whose changes were done again and whose areas were then settled. Crates above cite this.
 use Rattle.std.specs.Prelude.{max}
 use Rattle.std.proofs.Common.{◌≡◌, ℕ, List, length, map, Option, Some, None, Ok, refl, sym, ap, ◌∙◌, subst, arith}
+use Rattle.sky_calls.specs.Durable.{DurableView}
 use Rattle.sky_nfs.specs.Tree.{Tree, empty_tree}
 use Rattle.sky_outside.specs.Moments.{OnlyLooks}
 use Rattle.sky_outside.specs.Told.{WhereTold, BothTold}
@@ -25,7 +26,7 @@ both_from R (Some x) None y e both = absurd both
 both_from R (Some x) (Some z) y e both = let same : z ≡ y = cc in (x, refl, subst (λ w. R x w) same both)
 
 module _ {S : Type 0} (g : Ghosts S) (volume : ℕ) (j k : JournalView) (s t u : S) (tree : Tree) where
-  pub continued : IsReplayed g j s (empty_tree volume) tree → OnlyLooks g s t → IsJournal k → IsSettled 0 j k → StandsOn g k u
+  continued : IsReplayed g j s (empty_tree volume) tree → OnlyLooks g s t → IsJournal k → IsSettled 0 j k → StandsOn g k u
       → WhereTold (g.image s) (IsRead j 0) → WhereTold (g.image u) (IsRead k 0)
       → BothTold (λ old new. (list : List (ℕ × List ℕ)) → journal_of j.volume j.size 0 old ≡ Ok list → KeepsAbove j.volume j.size 0 list new) (g.image t) (g.image u)
       → IsContinued g volume j s u (record { tree = tree; journal = k })
@@ -61,3 +62,15 @@ module _ {S : Type 0} (g : Ghosts S) (volume : ℕ) (j k : JournalView) (s t u :
           ∙ WhereTold-at (g.image s)
           (λ image. (l : List (ℕ × List ℕ)) → journal_of j.volume j.size 0 image ≡ Ok l → entries_above 0 l ≡ numbered 0 (map entry_bytes replayed.changes)) old.0 told_s replayed.encoded list read.says in
           has_entries k (empty_tree volume) replayed.changes now is settled.area count read_now are
+
+  -- the same of a tree with its journal
+  pub continued_as : (start : Tree) (d : DurableView) → start ≡ empty_tree volume → d.tree ≡ tree → d.journal ≡ k → IsReplayed g j s start tree → OnlyLooks g s t → IsJournal k → IsSettled 0 j k
+      → StandsOn g k u → WhereTold (g.image s) (IsRead j 0) → WhereTold (g.image u) (IsRead k 0)
+      → BothTold (λ old new. (list : List (ℕ × List ℕ)) → journal_of j.volume j.size 0 old ≡ Ok list → KeepsAbove j.volume j.size 0 list new) (g.image t) (g.image u)
+      → IsContinued g volume j s u d
+  continued_as start d begins tree_is journal_is replayed looks is settled stands read_j read_k above =
+      let made : IsContinued g volume j s u (record { tree = tree; journal = k }) =
+      continued (subst (λ (x : Tree). IsReplayed g j s x tree) begins replayed) looks is settled stands read_j read_k above in
+      let by_tree : IsContinued g volume j s u (record { tree = d.tree; journal = k }) =
+      subst (λ (x : Tree). IsContinued g volume j s u (record { tree = x; journal = k })) (sym tree_is) made in
+      subst (λ (x : JournalView). IsContinued g volume j s u (record { tree = d.tree; journal = x })) (sym journal_is) by_tree

@@ -1,11 +1,14 @@
+pub mod Claimed
 pub mod Continued
 pub mod Covered
+pub mod Ends
 pub mod Entries
 pub mod Finds
 pub mod Keeps
 pub mod Lists
 pub mod Lying
 pub mod Moments
+pub mod Opened
 pub mod Puts
 pub mod Redone
 pub mod Refused

@@ -28,6 +28,7 @@ use crate::replaying::replay;
 use crate::settling::settle;
 use sky_calls::DurableTree;
 use sky_journal::Journal;
+use sky_nfs::valid_trees_stay_valid;
 use sky_outside::{Disk, Site};
 use sky_settings::Settings;
 use sky_tree::Tree;
@@ -61,6 +62,7 @@ fn read_and_claim<S: Site>(
     ensures image { S.image site.new ≡ S.image site.old }
     ensures claimed { OnOk result (Happened (after_put (boot_name epoch) (boot_bytes epoch)) (S.objects site.old) (S.objects site.new)) }
     ensures unclaimed { OnErr result (HappenedOrNot (after_put (boot_name epoch) (boot_bytes epoch)) (S.objects site.old) (S.objects site.new)) }
+    ensures unread { WhereTold (S.image site.old) (λ image. (at : ℕ) → journal_of volume area 0 image ≡ Err at → S.objects site.new ≡ S.objects site.old) }
     ensures any_moment { LeavesOnly S.Storage site.old site.new (PutsOrNot S.Storage (after_put (boot_name epoch) (boot_bytes epoch)) site.old) }
     ensures faults { IsOfReading result }
     ensures bytes { S.bytes_of site.new ≡ S.bytes_of site.old }
@@ -133,6 +135,10 @@ pub fn recover<S: Site>(
     ensures claimed { OnOk result (BothTold (λ old new. new ≡ claimed old) (S.objects site.old) (S.objects site.new)) }
     ensures unclaimed { OnErr result (BothTold (λ old new. (new ≡ old) ⊎ (new ≡ claimed old)) (S.objects site.old) (S.objects site.new)) }
 
+    // Where the disk is not a journal of the volume, nothing is put.
+    ensures unread { WhereTold (S.image site.old) (λ image. (at : ℕ)
+        → journal_of settings.now.volume settings.now.journal_area 0 image ≡ Err at → S.objects site.new ≡ S.objects site.old) }
+
     // Why it was refused.
     ensures judged { WhereTold (S.objects site.old) (IsJudged result) }
     ensures refused { IfErr result (λ fault. WhereBothTold S.Storage site.old
@@ -145,6 +151,7 @@ pub fn recover<S: Site>(
     ensures tells { OnOk result (BothTold (λ old new. Unit {0}) (S.image site.old) (S.image site.new)) }
     ensures size { S.bytes_of site.new ≡ S.bytes_of site.old }
 {
+    valid_trees_stay_valid();
     let volume = settings.volume();
     let area = settings.journal_area();
     let epoch = find_epoch(site)?;
