@@ -8,7 +8,7 @@ use Rattle.sky_recover.specs.Refusals.{IsRefusedBy}
 use Rattle.sky_recover.specs.Steps.{KeepsEntries}
 use Rattle.sky_recover.proofs.Ends.{at_settings, fails_there, foreign_there, unread_listed, unread_put, unread_read}
 use Rattle.sky_recover.proofs.Moments.{found_kept, found_put}
-use Rattle.sky_recover.proofs.Opened.{opened}
+use Rattle.sky_recover.proofs.Outcome.{opened}
 use Rattle.sky_recover.proofs.Refused.{refused_read, refused_redone, sound_ends}
 use Rattle.sky_recover.proofs.opening.recover.Goals as goal
 
