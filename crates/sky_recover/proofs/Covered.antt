@@ -1,13 +1,12 @@
 -- Entries of a journal that are not above covers, and images that say the others.
-use Rattle.std.specs.Prelude.{IfSome, IsTrue}
-use Rattle.std.specs.List.{AllByRecursion}
-use Rattle.std.proofs.Common.{◌≡◌, ℕ, ◌+◌, ◌≤◌, List, [], ◌∷◌, ◌++◌, length, Option, Some, None, Ok, refl, sym, ap, ◌∙◌, subst, arith}
+use Rattle.std.specs.Prelude.{IfSome}
+use Rattle.std.proofs.Common.{◌≡◌, ℕ, ◌≤◌, List, [], ◌∷◌, ◌++◌, Option, Some, None, Ok, refl, ap, ◌∙◌, arith}
 use Rattle.sky_journal.specs.Laid.{IsLaid}
 use Rattle.sky_journal.specs.Journal.{JournalView, IsOpenArea, AreInOrder, IsJournal, StandsFor, ReadsAs, base_in, entries, first_base, number_behind, numbered_in}
 use Rattle.sky_journal.specs.declared.open_area.OpenArea.{OpenArea}
 use Rattle.sky_journal.proofs.Reading.{reads}
 use Rattle.sky_sound.specs.Entries.{AreOfChanges, is_of_change, journal_of, entries_above}
-use Rattle.sky_sound.proofs.Above.{above_append, above_none}
+use Rattle.sky_sound.proofs.Above.{above_none}
 use Rattle.sky_sound.proofs.Bases.{first_based}
 use Rattle.sky_sound.proofs.Texts.{ok_same, text_of, text_grammar}
 use Rattle.sky_recover.specs.Settling.{IsRead, KeepsAbove}

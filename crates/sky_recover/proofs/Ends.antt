@@ -17,6 +17,10 @@ use Rattle.sky_recover.specs.declared.fault.OpenFault.{OpenFault}
 use Rattle.sky_recover.specs.declared.fault.OpenFault.TheVariants as fault
 use Rattle.sky_recover.proofs.Claimed.{claimed_told, maybe_claimed, either_claimed}
 
+-- what is said of the numbers that a setting was read as
+pub at_settings : (P : ℕ → ℕ → Type 0) (v w a b : ℕ) → v ≡ w → a ≡ b → P v a → P w b
+at_settings P v w a b e f holds = subst (λ (n : ℕ). P w n) f (subst (λ (n : ℕ). P n a) e holds)
+
 -- the same fault of another call
 pub judged_as : {T U : Type 0} (told : Option CloudMap) (why : OpenFault) → WhereTold told (IsJudged {T = T} (Err why)) → WhereTold told (IsJudged {T = U} (Err why))
 judged_as None why judged = tt

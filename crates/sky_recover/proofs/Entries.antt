@@ -1,6 +1,6 @@
 -- The entries of a journal that has those of a history's changes, and those that are appended. Crates above cite this.
 use Rattle.std.specs.Prelude.{IfSome, IsSome}
-use Rattle.std.proofs.Common.{◌≡◌, ℕ, ◌+◌, ◌<◌, ◌≤◌, List, [], ◌∷◌, ◌++◌, length, map, Option, Some, None, Ok, refl, sym, ap, ◌∙◌, subst, arith, append_assoc}
+use Rattle.std.proofs.Common.{◌≡◌, ℕ, ◌+◌, ◌<◌, ◌≤◌, true, false, List, [], ◌∷◌, ◌++◌, length, map, Option, Some, None, Ok, refl, sym, ap, ◌∙◌, subst, arith, append_assoc}
 use Rattle.std.proofs.lemmas.List.{length-map, length-append}
 use Rattle.sky_entry.specs.Entry.{entry_bytes}
 use Rattle.sky_nfs.specs.Tree.{Tree}
@@ -21,7 +21,7 @@ pub numbered-append : (base : ℕ) (xs ys : List (List ℕ)) → numbered base (
 unfolding numbered
 numbered-append base [] ys = let none : base ≡ base + 0 = omega arith in ap (λ (n : ℕ). numbered n ys) none
 numbered-append base (x ∷ xs) ys =
-    let next : base + 1 + length xs ≡ base + (1 + length xs) = omega arith in
+    let next : base + 1 + length xs ≡ base + length (x ∷ xs) = omega arith in
     ap (λ (l : List (ℕ × List ℕ)). (base + 1, x) ∷ l) (numbered-append (base + 1) xs ys ∙ ap (λ (n : ℕ). numbered (base + 1) xs ++ numbered n ys) next)
 
 -- each number is above 0
@@ -43,7 +43,7 @@ all_of j older newer =
 -- entries more in the newer area are numbered behind its last
 more_in : (volume size : ℕ) (image : List ℕ) (o : Option OpenArea) (newer more : List (List ℕ)) → IsSome o → IsLaid volume size image o newer
     → numbered_in o (newer ++ more) ≡ numbered_in o newer ++ numbered (number_behind o 0) more
-more_in volume size image None newer more some laid = absurd some
+more_in volume size image None newer more some laid = let no : false ≡ true = some in absurd cc
 more_in volume size image (Some a) newer more some laid =
     let same : a.base + length newer ≡ a.last + 0 = omega (arith, laid.numbers) in
     numbered-append a.base newer more ∙ ap (λ (n : ℕ). numbered a.base newer ++ numbered n more) same
@@ -59,7 +59,7 @@ has_entries j start changes image is some count read are = record {
       let first : entries j read.older (read.newer ++ more) ≡ numbered_in j.older read.older ++ (numbered_in j.newer read.newer ++ numbered (number_behind j.newer 0) more) =
       ap (λ (l : List (ℕ × List ℕ)). numbered_in j.older read.older ++ l) (more_in j.volume j.size image j.newer read.newer more some read.stands.newer_is) in
       let whole : entries j read.older read.newer ≡ numbered 0 (map entry_bytes changes) = sym (all_of j read.older read.newer) ∙ are in
-      let behind : number_behind j.newer 0 ≡ 0 + length (map entry_bytes changes) = omega (arith, count, length-map entry_bytes changes) in
+      let behind : number_behind j.newer 0 ≡ 0 + length (map entry_bytes changes) = omega (arith, count, length-map changes entry_bytes) in
       first
           ∙ sym (append_assoc (numbered_in j.older read.older) (numbered_in j.newer read.newer) (numbered (number_behind j.newer 0) more))
           ∙ ap (λ (l : List (ℕ × List ℕ)). l ++ numbered (number_behind j.newer 0) more) whole

@@ -8,7 +8,7 @@ pub mod Keeps
 pub mod Lists
 pub mod Lying
 pub mod Moments
-pub mod Opened
+pub mod Outcome
 pub mod Puts
 pub mod Redone
 pub mod Refused

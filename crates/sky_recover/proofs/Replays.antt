@@ -1,7 +1,7 @@
 -- Doing the changes of a journal again, one after the other.
-use Rattle.std.specs.Prelude.{◌&&◌, IsTrue, nat_lt}
+use Rattle.std.specs.Prelude.{◌&&◌, IsTrue}
 use Rattle.std.specs.List.{AllByRecursion}
-use Rattle.std.proofs.Common.{◌≡◌, ℕ, ◌+◌, ◌*◌, ◌<◌, ◌≤◌, Bool, true, false, List, [], ◌∷◌, ◌++◌, length, map, Option, Some, None, Ok, refl, sym, ap, ◌∙◌, subst, arith, append_assoc, length-append}
+use Rattle.std.proofs.Common.{◌≡◌, ℕ, ◌+◌, ◌<◌, ◌≤◌, Bool, true, false, List, [], ◌∷◌, ◌++◌, length, map, Option, Some, None, Ok, refl, sym, ap, ◌∙◌, subst, arith, append_assoc, length-append}
 use Rattle.std.proofs.lemmas.List.{append-nil, length_push, map-append}
 use Rattle.sky_nfs.specs.History.{are_done, is_done, tree_after_change, tree_after_changes}
 use Rattle.sky_nfs.specs.Tree.{Tree}
@@ -12,7 +12,7 @@ use Rattle.sky_outside.specs.Told.{WhereTold}
 use Rattle.sky_outside.specs.declared.storage.Storage.{Ghosts}
 use Rattle.sky_outside.proofs.MomentLaws.{OnlyLooks-none, OnlyLooks-then}
 use Rattle.sky_outside.proofs.ToldLaws.{WhereTold-at, WhereTold-from}
-use Rattle.sky_journal.specs.Journal.{JournalView, AreInOrder, IsJournal, StandsFor, base_in, entries, first_base, number_behind, numbered_in}
+use Rattle.sky_journal.specs.Journal.{JournalView, AreInOrder, IsJournal, StandsFor, base_in, entries, number_behind, numbered_in}
 use Rattle.sky_journal.specs.Laid.{IsLaid}
 use Rattle.sky_journal.specs.Place.{Left}
 use Rattle.sky_journal.specs.Text.{numbered}
@@ -22,7 +22,7 @@ use Rattle.sky_journal.proofs.AreaWords.{numbered-length}
 use Rattle.sky_sound.specs.Entries.{AreOfChanges, IsStorable, change_of, changes_in, entries_above, is_of_change, journal_of, with_change}
 use Rattle.sky_sound.proofs.Above.{above_yes}
 use Rattle.sky_sound.proofs.Texts.{text_of}
-use Rattle.sky_recover.specs.Replaying.{DoesNext, FailsAt, FailsNext, IsRedone, IsReplayed, IsRefused, IsWhose, LiesAt}
+use Rattle.sky_recover.specs.Replaying.{DoesNext, FailsAt, FailsNext, IsRedone, IsReplayed, IsRefused}
 use Rattle.sky_recover.specs.Settling.{IsRead}
 use Rattle.sky_recover.proofs.Covered.{based, list_is, of_changes_second, read_of_changes}
 

@@ -1,13 +1,13 @@
 -- Closing areas that have no entry above covers, and opening one behind covers.
 use Rattle.std.specs.Prelude.{IfSome, IsSome}
-use Rattle.std.proofs.Common.{◌≡◌, ◌⊎◌, ⊎_elim, inl, inr, ℕ, ◌<◌, ◌≤◌, max, false, List, [], ◌++◌, Option, Some, None, Ok, refl, sym, ap, ◌∙◌, subst, arith}
+use Rattle.std.proofs.Common.{◌≡◌, ◌⊎◌, ⊎_elim, inr, ℕ, ◌<◌, ◌≤◌, false, List, [], ◌++◌, Option, Some, None, Ok, refl, sym, ap, ◌∙◌, subst, arith}
 use Rattle.sky_base.specs.Limits.{max_number}
 use Rattle.sky_outside.specs.Moments.{LeavesOnly, BesideObjects, NothingPending, SameCloud}
 use Rattle.sky_outside.specs.Told.{WhereTold, BothTold}
 use Rattle.sky_outside.specs.declared.storage.Storage.{Ghosts}
 use Rattle.sky_outside.proofs.MomentLaws.{LeavesOnly-disk_start, LeavesOnly-disk_then, only_read}
 use Rattle.sky_outside.proofs.ToldLaws.{WhereTold-at, WhereTold-from}
-use Rattle.sky_journal.specs.Journal.{JournalView, IsOpenArea, IsJournal, StandsFor, StandsOn, ReadsAs, Reads, SameButSpare, after_rotation, base_in, entries, first_base, new_area, number_behind, numbered_in, without_newer, without_older, wiped}
+use Rattle.sky_journal.specs.Journal.{JournalView, IsJournal, StandsFor, ReadsAs, Reads, SameButSpare, after_rotation, base_in, entries, first_base, new_area, number_behind, numbered_in, without_newer, without_older, wiped}
 use Rattle.sky_journal.specs.Text.{numbered}
 use Rattle.sky_journal.specs.declared.open_area.OpenArea.{OpenArea}
 use Rattle.sky_journal.proofs.Disks.{both_at, both_same, leaves_weaker}
@@ -17,7 +17,7 @@ use Rattle.sky_journal.proofs.Wiped.{LeavesWiped}
 use Rattle.sky_sound.specs.Entries.{AreOfChanges, journal_of, entries_above}
 use Rattle.sky_sound.proofs.Above.{above_append}
 use Rattle.sky_recover.specs.Settling.{IsRead, IsSettled, KeepsAbove, LeavesAbove, StaysAbove}
-use Rattle.sky_recover.proofs.Covered.{of_changes_first, of_changes_second, area_covered, older_low, base_low, first_low, newer_base, read_of_changes, based, list_is, keeps_of, read_from, keeps_from}
+use Rattle.sky_recover.proofs.Covered.{of_changes_first, of_changes_second, area_covered, older_low, base_low, first_low, newer_base, read_of_changes, based, list_is, keeps_of, read_from}
 
 some_same : {A : Type 0} (a b : A) → Some a ≡ Some b → a ≡ b
 some_same a b e = cc e

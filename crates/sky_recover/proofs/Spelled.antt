@@ -1,6 +1,6 @@
 -- When bytes are the entry of a change. Crates above cite this.
 use Rattle.std.specs.Prelude.{is_some, if◌then◌else◌}
-use Rattle.std.proofs.Common.{◌≡◌, ℕ, Bool, true, false, nat_eq, List, length, Option, Some, None, refl}
+use Rattle.std.proofs.Common.{◌≡◌, ℕ, Bool, true, false, nat_eq, List, length, Some, None, refl}
 use Rattle.sky_nfs.specs.declared.call.Change.{Change}
 use Rattle.sky_entry.specs.Reading.{entry_at}
 use Rattle.sky_sound.specs.Entries.{change_of, is_of_change}

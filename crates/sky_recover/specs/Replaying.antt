@@ -1,5 +1,5 @@
 -- What doing the changes of a journal again leads to.
-use Rattle.std.specs.Prelude.{◌≡◌, ◌⊎◌, ℕ, true, false, IsTrue, List, [], ◌∷◌, ◌++◌, length, map, Some, Ok, Err}
+use Rattle.std.specs.Prelude.{◌≡◌, ◌⊎◌, ℕ, true, false, IsTrue, List, ◌∷◌, ◌++◌, length, map, Some, Ok, Err}
 use Rattle.std.specs.List.{AllByRecursion}
 use Rattle.sky_nfs.specs.History.{are_done, is_done, tree_after_change, tree_after_changes}
 use Rattle.sky_nfs.specs.Tree.{Tree}
@@ -21,7 +21,7 @@ pub record IsRedone (old : Tree) (change : Change) (new : Tree) : Type 0 where
   pub done : is_done old change ≡ true
   pub tree_is : new ≡ tree_after_change old change
 
--- bytes are the entry of this change, where they are one of a change at all
+-- bytes are the entry of this change, and are encoded as it is
 pub record IsWhose (entry : List ℕ) (change : Change) : Type 0 where
   pub change_is : change_of entry ≡ Some change
   pub encoded : entry ≡ entry_bytes change

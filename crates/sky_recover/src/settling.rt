@@ -49,11 +49,7 @@ fn older_is_covered(journal: &Journal, covers: u64) -> bool
 }
 
 /// Closes the older area, where it has no entry above this number.
-fn release_covered<D: Disk>(
-    journal: &mut Journal,
-    disk: &mut D,
-    covers: u64,
-) -> Result<(), Failed>
+fn release_covered<D: Disk>(journal: &mut Journal, disk: &mut D, covers: u64) -> Result<(), Failed>
     requires up { journal.old.down ≡ false }
     requires pending { journal.old.pending ≡ [] }
     requires stands { StandsOn D.Storage journal.old disk.old }
