@@ -1,6 +1,7 @@
 use Rattle.std.specs.Prelude.{nat_lt}
 use Rattle.std.proofs.Common.{◌≡◌, ℕ, Err, refl, ap, ◌∙◌}
 use Rattle.std.proofs.lemmas.Result.{err_from_is_err_and}
+use Rattle.sky_calls.specs.Durable.{DurableView}
 use Rattle.sky_journal.specs.Journal.{JournalView, number_behind}
 use Rattle.sky_outside.specs.Told.{WhereTold}
 use Rattle.sky_sound.specs.Entries.{journal_of}
@@ -27,7 +28,7 @@ returns-in_err-journal-clause-refused g c =
     rw (p.1, p.2)
     (at_settings (λ v a. WhereBothTold g.S.Storage c.args.site.now (IsRefusedBy v a c.in_err-journal.field-0.0)) c.volume-volume.result c.args.settings.now.volume c.journal_area-area.result
     c.args.settings.now.journal_area c.volume-volume.ensures.same c.journal_area-area.ensures.same
-    (refused_read g.S.Storage c.volume-volume.result c.journal_area-area.result c.args.site.now c.in_ok-epoch.ensures.judged _ c.in_err-journal.field-0.0 c.in_err-journal.ensures.faults
+    (refused_read g.S.Storage c.volume-volume.result c.journal_area-area.result c.args.site.now c.in_ok-epoch.ensures.judged JournalView c.in_err-journal.field-0.0 c.in_err-journal.ensures.faults
     (λ at is.
     foreign_there g.S.Storage c.volume-volume.result c.journal_area-area.result c.args.site.now c.find_epoch.new.cloud c.find_epoch.ensures.looks at (c.in_err-journal.ensures.foreign at is))))
 
@@ -39,7 +40,7 @@ returns-in_err-journal-clause-sound g c =
     (rw p.2
     (at_settings (λ v a. WhereBothTold g.S.Storage c.args.site.now (IsRefusedBy v a c.in_err-journal.field-0.0)) c.volume-volume.result c.args.settings.now.volume c.journal_area-area.result
     c.args.settings.now.journal_area c.volume-volume.ensures.same c.journal_area-area.ensures.same
-    (refused_read g.S.Storage c.volume-volume.result c.journal_area-area.result c.args.site.now c.in_ok-epoch.ensures.judged _ c.in_err-journal.field-0.0 c.in_err-journal.ensures.faults
+    (refused_read g.S.Storage c.volume-volume.result c.journal_area-area.result c.args.site.now c.in_ok-epoch.ensures.judged JournalView c.in_err-journal.field-0.0 c.in_err-journal.ensures.faults
     (λ at is.
     foreign_there g.S.Storage c.volume-volume.result c.journal_area-area.result c.args.site.now c.find_epoch.new.cloud c.find_epoch.ensures.looks at (c.in_err-journal.ensures.foreign at is))))))
 
@@ -74,7 +75,7 @@ returns-in_err-durable-clause-refused g c =
     rw (p.1, p.2)
     (at_settings (λ v a. WhereBothTold g.S.Storage c.args.site.now (IsRefusedBy v a c.in_err-durable.field-0.0)) c.volume-volume.result c.args.settings.now.volume c.journal_area-area.result
     c.args.settings.now.journal_area c.volume-volume.ensures.same c.journal_area-area.ensures.same
-    (refused_redone g.S.Storage c.volume-volume.result c.journal_area-area.result c.args.site.now c.in_ok-epoch.ensures.judged _ c.in_err-durable.field-0.0 c.in_err-durable.ensures.faults
+    (refused_redone g.S.Storage c.volume-volume.result c.journal_area-area.result c.args.site.now c.in_ok-epoch.ensures.judged DurableView c.in_err-durable.field-0.0 c.in_err-durable.ensures.faults
     (λ at is.
     fails_there g.S.Storage c.volume-volume.result c.journal_area-area.result c.args.site.now c.find_epoch.new.cloud c.find_epoch.ensures.looks c.read_and_claim.new.site c.in_ok-journal.journal
     c.in_ok-journal.ensures.volume c.in_ok-journal.ensures.size c.read_and_claim.ensures.image c.in_ok-journal.ensures.read at (c.in_err-durable.ensures.foreign at is))))
@@ -87,7 +88,7 @@ returns-in_err-durable-clause-sound g c =
     (rw p.2
     (at_settings (λ v a. WhereBothTold g.S.Storage c.args.site.now (IsRefusedBy v a c.in_err-durable.field-0.0)) c.volume-volume.result c.args.settings.now.volume c.journal_area-area.result
     c.args.settings.now.journal_area c.volume-volume.ensures.same c.journal_area-area.ensures.same
-    (refused_redone g.S.Storage c.volume-volume.result c.journal_area-area.result c.args.site.now c.in_ok-epoch.ensures.judged _ c.in_err-durable.field-0.0 c.in_err-durable.ensures.faults
+    (refused_redone g.S.Storage c.volume-volume.result c.journal_area-area.result c.args.site.now c.in_ok-epoch.ensures.judged DurableView c.in_err-durable.field-0.0 c.in_err-durable.ensures.faults
     (λ at is.
     fails_there g.S.Storage c.volume-volume.result c.journal_area-area.result c.args.site.now c.find_epoch.new.cloud c.find_epoch.ensures.looks c.read_and_claim.new.site c.in_ok-journal.journal
     c.in_ok-journal.ensures.volume c.in_ok-journal.ensures.size c.read_and_claim.ensures.image c.in_ok-journal.ensures.read at (c.in_err-durable.ensures.foreign at is))))))
