@@ -36,7 +36,7 @@ pub returns-in_err-journal-clause-sound : goal.returns-in_err-journal-clause-sou
 returns-in_err-journal-clause-sound g c =
     let p = err_from_is_err_and c.from_residual-in_err-journal.result c.from_residual-in_err-journal.ensures.1 in
     rw p.1
-    (sound_ends g.S.Storage c.args.settings.now.volume c.args.settings.now.journal_area c.args.site.now _ p.0
+    (sound_ends g.S.Storage c.args.settings.now.volume c.args.settings.now.journal_area c.args.site.now (DurableView × Opened) p.0
     (rw p.2
     (at_settings (λ v a. WhereBothTold g.S.Storage c.args.site.now (IsRefusedBy v a c.in_err-journal.field-0.0)) c.volume-volume.result c.args.settings.now.volume c.journal_area-area.result
     c.args.settings.now.journal_area c.volume-volume.ensures.same c.journal_area-area.ensures.same
@@ -84,7 +84,7 @@ pub returns-in_err-durable-clause-sound : goal.returns-in_err-durable-clause-sou
 returns-in_err-durable-clause-sound g c =
     let p = err_from_is_err_and c.from_residual-in_err-durable.result c.from_residual-in_err-durable.ensures.1 in
     rw p.1
-    (sound_ends g.S.Storage c.args.settings.now.volume c.args.settings.now.journal_area c.args.site.now _ p.0
+    (sound_ends g.S.Storage c.args.settings.now.volume c.args.settings.now.journal_area c.args.site.now (DurableView × Opened) p.0
     (rw p.2
     (at_settings (λ v a. WhereBothTold g.S.Storage c.args.site.now (IsRefusedBy v a c.in_err-durable.field-0.0)) c.volume-volume.result c.args.settings.now.volume c.journal_area-area.result
     c.args.settings.now.journal_area c.volume-volume.ensures.same c.journal_area-area.ensures.same
