@@ -55,6 +55,8 @@ module _ {S : Type 0} (g : Ghosts S) (v a : ℕ) (s t : S) (looks : OnlyLooks g 
         WhereTold-from (g.image s) (λ image. (list : List (ℕ × List ℕ)) × (journal_of v a 0 image ≡ Ok list) × FailsAt (empty_tree v) (entries_above 0 list) image at)
         (λ image told.
         let reads = read_at image told in
-        let list : List (ℕ × List ℕ) = entries j reads.older reads.newer in
-        (list, says image reads,
-        WhereTold-at (g.image u) (λ x. (l : List (ℕ × List ℕ)) → journal_of j.volume j.size 0 x ≡ Ok l → FailsAt (empty_tree v) (entries_above 0 l) x at) image (same ∙ looks.image ∙ told) fails list reads.says))
+        let list : List (ℕ × List ℕ) = entries j reads.older reads.newer in (
+          list,
+          says image reads,
+          WhereTold-at (g.image u) (λ x. (l : List (ℕ × List ℕ)) → journal_of j.volume j.size 0 x ≡ Ok l → FailsAt (empty_tree v) (entries_above 0 l) x at) image (same ∙ looks.image ∙ told) fails list reads.says,
+        ))

@@ -117,9 +117,10 @@ module _ {S : Type 0} (g : Ghosts S) (volume size : ℕ) (s : S) where
     refused_redone T fault.Memory of foreign = anyway fault.Memory (λ image objects. tt)
     refused_redone T (fault.Foreign at) of foreign =
         WhereBothTold-from g s (IsRefusedBy volume size (fault.Foreign at))
-        (λ image objects told held.
-        ((none_at objects held).no_checkpoint,
-        inr (WhereTold-at (g.image s) (λ x. (list : List (ℕ × List ℕ)) × (journal_of volume size 0 x ≡ Ok list) × FailsAt (empty_tree volume) (entries_above 0 list) x at) image told (foreign at refl))))
+        (λ image objects told held. (
+          (none_at objects held).no_checkpoint,
+          inr (WhereTold-at (g.image s) (λ x. (list : List (ℕ × List ℕ)) × (journal_of volume size 0 x ≡ Ok list) × FailsAt (empty_tree volume) (entries_above 0 list) x at) image told (foreign at refl)),
+        ))
     refused_redone T (fault.Lost lost) of foreign = absurd of
     refused_redone T fault.Worn of foreign = absurd of
 
