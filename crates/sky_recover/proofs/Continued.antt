@@ -44,8 +44,10 @@ module _ {S : Type 0} (g : Ghosts S) (volume : ℕ) (j k : JournalView) (s t u :
     where
       none_less : {n : ℕ} → max 0 n ≡ n
       none_less = omega arith
+
       count : length replayed.changes ≡ number_behind k.newer 0
       count = replayed.count ∙ sym (settled.last ∙ none_less)
+
       there : (now : List ℕ) → g.image u ≡ Some now → HasEntries k (record { before = 0; tree = empty_tree volume; changes = replayed.changes }) now
       there now told =
           let old = both_from (λ old new. (list : List (ℕ × List ℕ)) → journal_of j.volume j.size 0 old ≡ Ok list → KeepsAbove j.volume j.size 0 list new) (g.image t) (g.image u) now told above in

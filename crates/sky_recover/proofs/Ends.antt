@@ -1,35 +1,18 @@
 -- How what the steps of an opening say of their own beginnings is said of its beginning. Crates above cite this.
-use Rattle.std.proofs.Common.{◌≡◌, ◌⊎◌, ℕ, List, Option, Some, None, Ok, Err, sym, ap, ◌∙◌, subst}
+use Rattle.std.proofs.Common.{◌≡◌, ℕ, List, Option, Some, Ok, Err, sym, ap, ◌∙◌, subst}
 use Rattle.sky_nfs.specs.Tree.{empty_tree}
-use Rattle.sky_outside.specs.CloudMap.{CloudMap, after_put, Happened, HappenedOrNot}
 use Rattle.sky_outside.specs.Moments.{OnlyLooks}
-use Rattle.sky_outside.specs.Told.{WhereTold, BothTold}
+use Rattle.sky_outside.specs.Told.{WhereTold}
 use Rattle.sky_outside.specs.declared.storage.Storage.{Ghosts}
 use Rattle.sky_outside.proofs.ToldLaws.{WhereTold-at, WhereTold-from}
 use Rattle.sky_journal.specs.Journal.{JournalView, entries}
-use Rattle.sky_sound.specs.Boot.{boot_bytes, boot_name, claimed}
-use Rattle.sky_sound.specs.Cloud.{epoch_after}
 use Rattle.sky_sound.specs.Entries.{entries_above, journal_of}
-use Rattle.sky_recover.specs.Refusals.{IsJudged}
 use Rattle.sky_recover.specs.Replaying.{FailsAt}
 use Rattle.sky_recover.specs.Settling.{IsRead}
-use Rattle.sky_recover.specs.declared.fault.OpenFault.{OpenFault}
-use Rattle.sky_recover.specs.declared.fault.OpenFault.TheVariants as fault
-use Rattle.sky_recover.proofs.Claimed.{claimed_told, maybe_claimed, either_claimed}
 
 -- what is said of the numbers that a setting was read as
 pub at_settings : (P : ℕ → ℕ → Type 0) (v w a b : ℕ) → v ≡ w → a ≡ b → P v a → P w b
 at_settings P v w a b e f holds = subst (λ (n : ℕ). P w n) f (subst (λ (n : ℕ). P n a) e holds)
-
--- the same fault of another call
-pub judged_as : {T U : Type 0} (told : Option CloudMap) (why : OpenFault) → WhereTold told (IsJudged {T = T} (Err why)) → WhereTold told (IsJudged {T = U} (Err why))
-judged_as None why judged = tt
-judged_as (Some objects) fault.DiskFault judged = judged
-judged_as (Some objects) fault.CloudFault judged = judged
-judged_as (Some objects) fault.Memory judged = judged
-judged_as (Some objects) (fault.Foreign at) judged = judged
-judged_as (Some objects) (fault.Lost lost) judged = judged
-judged_as (Some objects) fault.Worn judged = judged
 
 module _ {S : Type 0} (g : Ghosts S) (v a : ℕ) (s t : S) (looks : OnlyLooks g s t) where
   abbrev Unread : S → List ℕ → Type 0
@@ -50,26 +33,6 @@ module _ {S : Type 0} (g : Ghosts S) (v a : ℕ) (s t : S) (looks : OnlyLooks g 
   -- it is foreign
   pub foreign_there : (at : ℕ) → WhereTold (g.image t) (λ image. journal_of v a 0 image ≡ Err at) → WhereTold (g.image s) (λ image. journal_of v a 0 image ≡ Err at)
   foreign_there at foreign = subst (λ (o : Option (List ℕ)). WhereTold o (λ image. journal_of v a 0 image ≡ Err at)) looks.image foreign
-
-  module _ (epoch : ℕ) (epoch_is : WhereTold (g.objects s) (λ objects. epoch ≡ epoch_after objects)) where
-    -- the boot object was put, or maybe not
-    pub unclaimed_put : (u : S) → HappenedOrNot (after_put (boot_name epoch) (boot_bytes epoch)) (g.objects t) (g.objects u)
-        → BothTold (λ old new. (new ≡ old) ⊎ (new ≡ claimed old)) (g.objects s) (g.objects u)
-    unclaimed_put u went =
-        maybe_claimed epoch (g.objects s) (g.objects u) epoch_is
-        (subst (λ (o : Option CloudMap). HappenedOrNot (after_put (boot_name epoch) (boot_bytes epoch)) o (g.objects u)) looks.cloud.objects went)
-
-    -- it was put, and the cloud stayed so
-    pub claimed_then : (u w : S) → Happened (after_put (boot_name epoch) (boot_bytes epoch)) (g.objects t) (g.objects u) → g.objects w ≡ g.objects u
-        → BothTold (λ old new. new ≡ claimed old) (g.objects s) (g.objects w)
-    claimed_then u w went same =
-        subst (λ (o : Option CloudMap). BothTold (λ old new. new ≡ claimed old) (g.objects s) o) (sym same)
-        (claimed_told epoch (g.objects s) (g.objects u) epoch_is
-        (subst (λ (o : Option CloudMap). Happened (after_put (boot_name epoch) (boot_bytes epoch)) o (g.objects u)) looks.cloud.objects went))
-
-    pub unclaimed_then : (u w : S) → Happened (after_put (boot_name epoch) (boot_bytes epoch)) (g.objects t) (g.objects u) → g.objects w ≡ g.objects u
-        → BothTold (λ old new. (new ≡ old) ⊎ (new ≡ claimed old)) (g.objects s) (g.objects w)
-    unclaimed_then u w went same = either_claimed (g.objects s) (g.objects w) (claimed_then u w went same)
 
   module _ (u : S) (j : JournalView) (volume_is : j.volume ≡ v) (size_is : j.size ≡ a) (same : g.image u ≡ g.image t) (read : WhereTold (g.image u) (IsRead j 0)) where
     read_at : (image : List ℕ) → g.image s ≡ Some image → IsRead j 0 image
@@ -92,6 +55,8 @@ module _ {S : Type 0} (g : Ghosts S) (v a : ℕ) (s t : S) (looks : OnlyLooks g 
         WhereTold-from (g.image s) (λ image. (list : List (ℕ × List ℕ)) × (journal_of v a 0 image ≡ Ok list) × FailsAt (empty_tree v) (entries_above 0 list) image at)
         (λ image told.
         let reads = read_at image told in
-        let list : List (ℕ × List ℕ) = entries j reads.older reads.newer in
-        (list, says image reads,
-        WhereTold-at (g.image u) (λ x. (l : List (ℕ × List ℕ)) → journal_of j.volume j.size 0 x ≡ Ok l → FailsAt (empty_tree v) (entries_above 0 l) x at) image (same ∙ looks.image ∙ told) fails list reads.says))
+        let list : List (ℕ × List ℕ) = entries j reads.older reads.newer in (
+          list,
+          says image reads,
+          WhereTold-at (g.image u) (λ x. (l : List (ℕ × List ℕ)) → journal_of j.volume j.size 0 x ≡ Ok l → FailsAt (empty_tree v) (entries_above 0 l) x at) image (same ∙ looks.image ∙ told) fails list reads.says,
+        ))

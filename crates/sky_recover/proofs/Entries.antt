@@ -61,8 +61,8 @@ has_entries j start changes image is some count read are = record {
       let whole : entries j read.older read.newer ≡ numbered 0 (map entry_bytes changes) = sym (all_of j read.older read.newer) ∙ are in
       let behind : number_behind j.newer 0 ≡ 0 + length (map entry_bytes changes) = omega (arith, count, length-map changes entry_bytes) in
       first
-          ∙ sym (append_assoc (numbered_in j.older read.older) (numbered_in j.newer read.newer) (numbered (number_behind j.newer 0) more))
-          ∙ ap (λ (l : List (ℕ × List ℕ)). l ++ numbered (number_behind j.newer 0) more) whole
-          ∙ ap (λ (n : ℕ). numbered 0 (map entry_bytes changes) ++ numbered n more) behind
-          ∙ sym (numbered-append 0 (map entry_bytes changes) more);
+      ∙ sym (append_assoc (numbered_in j.older read.older) (numbered_in j.newer read.newer) (numbered (number_behind j.newer 0) more))
+      ∙ ap (λ (l : List (ℕ × List ℕ)). l ++ numbered (number_behind j.newer 0) more) whole
+      ∙ ap (λ (n : ℕ). numbered 0 (map entry_bytes changes) ++ numbered n more) behind
+      ∙ sym (numbered-append 0 (map entry_bytes changes) more);
 }

@@ -1,4 +1,3 @@
-pub mod Claimed
 pub mod Continued
 pub mod Covered
 pub mod Ends
@@ -9,7 +8,6 @@ pub mod Lists
 pub mod Lying
 pub mod Moments
 pub mod Outcome
-pub mod Puts
 pub mod Redone
 pub mod Refused
 pub mod Replays

@@ -22,7 +22,6 @@ pub WhereBothTold-from : {S : Type 0} (g : Ghosts S) (s : S) (P : List ℕ → C
 WhereBothTold-from g s P holds =
     WhereTold-from (g.image s) (λ image. WhereTold (g.objects s) (P image)) (λ image told. WhereTold-from (g.objects s) (P image) (λ objects held. holds image objects told held))
 
-
 module _ {S : Type 0} (g : Ghosts S) (volume size : ℕ) where
   module _ (image : List ℕ) (objects : CloudMap) (is : IsSound volume size image objects) where
     -- the image and the objects are as they were, or the epoch was claimed

@@ -2,9 +2,6 @@
 use Rattle.std.specs.Prelude.{◌&&◌, IsTrue, IsErrOf}
 use Rattle.std.proofs.Common.{◌≡◌, ◌⊎◌, ⊎_elim, inl, inr, ℕ, Bool, true, false, List, [], ◌∷◌, ◌++◌, Option, Some, None, Result, Ok, Err, refl, sym, ap, ◌∙◌, subst}
 use Rattle.std.proofs.lemmas.Bool.{true≢false}
-use Rattle.sky_base.specs.declared.object.SegName.{SegName}
-use Rattle.sky_base.specs.declared.place.Damage.TheVariants.{Form}
-use Rattle.sky_base.specs.declared.place.Lost.{Lost}
 use Rattle.sky_base.specs.declared.place.Lost.TheVariants.{Damaged, Missing}
 use Rattle.sky_nfs.specs.History.{History, are_done, is_done, tree_after_change, tree_after_changes}
 use Rattle.sky_nfs.specs.Tree.{Tree, empty_tree}
@@ -19,11 +16,15 @@ use Rattle.sky_sound.proofs.Above.{history_from_entries}
 use Rattle.sky_sound.proofs.Texts.{ok_same}
 use Rattle.sky_recover.specs.Faults.{IsOfJournal}
 use Rattle.sky_recover.specs.Opening.{WhereBothTold}
-use Rattle.sky_recover.specs.Refusals.{IsClaimable, IsJudged, IsOfDevices, IsOfList, IsOfReading, IsRefusedBy}
+use Rattle.sky_recover.specs.Refusals.{IsClaimable, IsOfDevices, IsOfReading, IsRefusedBy}
 use Rattle.sky_recover.specs.Replaying.{FailsAt}
 use Rattle.sky_recover.specs.declared.fault.OpenFault.{OpenFault}
 use Rattle.sky_recover.specs.declared.fault.OpenFault.TheVariants as fault
 use Rattle.sky_recover.proofs.Moments.{WhereBothTold-from}
+
+-- a call ended so
+abbrev pub failed : (T : Type 0) → OpenFault → Result T OpenFault
+failed T why = Err why
 
 -- ---- changes that are all answered OK
 
@@ -38,11 +39,11 @@ changes_in-append (x ∷ xs) ys =
 
 first_true : (a b : Bool) → IsTrue (a && b) → a ≡ true
 first_true true b is = refl
-first_true false b is = absurd is
+first_true false b is = let no : false ≡ true = is in absurd cc
 
 second_true : (a b : Bool) → IsTrue (a && b) → IsTrue b
 second_true true b is = is
-second_true false b is = absurd is
+second_true false b is = let no : false ≡ true = is in absurd cc
 
 done_at : (t : Tree) (xs : List Change) (change : Change) (ys : List Change) → IsTrue (are_done t (xs ++ change ∷ ys)) → is_done (tree_after_changes t xs) change ≡ true
 done_at t [] change ys done = first_true (is_done t change) (are_done (tree_after_change t change) ys) done
@@ -72,17 +73,17 @@ module _ (volume size : ℕ) (image : List ℕ) (objects : CloudMap) (is : IsSou
   not_foreign at foreign = let found = history_from_entries volume size image objects is.history is.stands_for in let says : journal_of volume size 0 image ≡ Ok found.0 = found.1 in absurd cc
 
   -- a sound site is refused by no object and by no byte of its disk
-  pub sound_unrefused : {T : Type 0} (why : OpenFault) → IsRefusedBy volume size why image objects → IsOfDevices {T = T} (Err why)
-  sound_unrefused fault.DiskFault by = tt
-  sound_unrefused fault.CloudFault by = tt
-  sound_unrefused fault.Memory by = tt
-  sound_unrefused (fault.Foreign at) by =
+  pub sound_unrefused : (T : Type 0) (why : OpenFault) → IsRefusedBy volume size why image objects → IsOfDevices (failed T why)
+  sound_unrefused T fault.DiskFault by = tt
+  sound_unrefused T fault.CloudFault by = tt
+  sound_unrefused T fault.Memory by = tt
+  sound_unrefused T (fault.Foreign at) by =
       ⊎_elim (λ (e : journal_of volume size 0 image ≡ Err at). not_foreign at e)
       (λ (x : (list : List (ℕ × List ℕ)) × (journal_of volume size 0 image ≡ Ok list) × FailsAt (empty_tree volume) (entries_above 0 list) image at).
       none_fails (empty_tree volume) (entries_above 0 x.0) image at (sound_done x.0 x.1) x.2) by.1
-  sound_unrefused (fault.Lost (Missing name)) by = by
-  sound_unrefused (fault.Lost (Damaged name damage)) by = let none = is.no_checkpoint in let some = by.0 in absurd cc
-  sound_unrefused fault.Worn by = tt
+  sound_unrefused T (fault.Lost (Missing name)) by = by
+  sound_unrefused T (fault.Lost (Damaged name damage)) by = let none = is.no_checkpoint in let some = by.0 in absurd cc
+  sound_unrefused T fault.Worn by = tt
 
 -- ---- each step's refusals
 
@@ -90,81 +91,45 @@ module _ {S : Type 0} (g : Ghosts S) (volume size : ℕ) (s : S) where
   anyway : (why : OpenFault) → ((image : List ℕ) (objects : CloudMap) → IsRefusedBy volume size why image objects) → WhereBothTold g s (IsRefusedBy volume size why)
   anyway why holds = WhereBothTold-from g s (IsRefusedBy volume size why) (λ image objects told held. holds image objects)
 
-  -- by the list
-  pub refused_listed : {T : Type 0} (why : OpenFault) → IsOfList {T = T} (Err why) → WhereTold (g.objects s) (IsJudged {T = T} (Err why)) → WhereBothTold g s (IsRefusedBy volume size why)
-  refused_listed fault.DiskFault of judged = absurd of
-  refused_listed fault.CloudFault of judged = anyway fault.CloudFault (λ image objects. tt)
-  refused_listed fault.Memory of judged = anyway fault.Memory (λ image objects. tt)
-  refused_listed (fault.Foreign at) of judged = absurd of
-  refused_listed {T} (fault.Lost lost) of judged =
-      WhereBothTold-from g s (IsRefusedBy volume size (fault.Lost lost))
-      (λ image objects told held.
-      let is = WhereTold-at (g.objects s) (IsJudged {T = T} (Err (fault.Lost lost))) objects held judged in
-      subst (λ (l : Lost). IsRefusedBy volume size (fault.Lost l) image objects) (sym is.lost_is) (is.checkpoint, refl))
-  refused_listed {T} fault.Worn of judged =
-      WhereBothTold-from g s (IsRefusedBy volume size fault.Worn)
-      (λ image objects told held. let is = WhereTold-at (g.objects s) (IsJudged {T = T} (Err fault.Worn)) objects held judged in (is.no_checkpoint, is.no_epoch))
-
   module _ (claimable : WhereTold (g.objects s) IsClaimable) where
     none_at : (objects : CloudMap) → g.objects s ≡ Some objects → IsClaimable objects
     none_at objects held = WhereTold-at (g.objects s) IsClaimable objects held claimable
 
     -- by the journal, or by the put
-    pub refused_read : {T : Type 0} (why : OpenFault) → IsOfReading {T = T} (Err why)
-        → ((at : ℕ) → IsErrOf {A = T} (Err why) (fault.Foreign at) → WhereTold (g.image s) (λ image. journal_of volume size 0 image ≡ Err at)) → WhereBothTold g s (IsRefusedBy volume size why)
-    refused_read fault.DiskFault of foreign = anyway fault.DiskFault (λ image objects. tt)
-    refused_read fault.CloudFault of foreign = anyway fault.CloudFault (λ image objects. tt)
-    refused_read fault.Memory of foreign = anyway fault.Memory (λ image objects. tt)
-    refused_read (fault.Foreign at) of foreign =
+    pub refused_read : (T : Type 0) (why : OpenFault) → IsOfReading (failed T why)
+        → ((at : ℕ) → IsErrOf (failed T why) (fault.Foreign at) → WhereTold (g.image s) (λ image. journal_of volume size 0 image ≡ Err at)) → WhereBothTold g s (IsRefusedBy volume size why)
+    refused_read T fault.DiskFault of foreign = anyway fault.DiskFault (λ image objects. tt)
+    refused_read T fault.CloudFault of foreign = anyway fault.CloudFault (λ image objects. tt)
+    refused_read T fault.Memory of foreign = anyway fault.Memory (λ image objects. tt)
+    refused_read T (fault.Foreign at) of foreign =
         WhereBothTold-from g s (IsRefusedBy volume size (fault.Foreign at))
         (λ image objects told held. ((none_at objects held).no_checkpoint, inl (WhereTold-at (g.image s) (λ x. journal_of volume size 0 x ≡ Err at) image told (foreign at refl))))
-    refused_read (fault.Lost lost) of foreign = absurd of
-    refused_read fault.Worn of foreign = absurd of
+    refused_read T (fault.Lost lost) of foreign = absurd of
+    refused_read T fault.Worn of foreign = absurd of
 
     -- by a change
-    pub refused_redone : {T : Type 0} (why : OpenFault) → IsOfJournal {T = T} (Err why)
-        → ((at : ℕ) → IsErrOf {A = T} (Err why) (fault.Foreign at)
+    pub refused_redone : (T : Type 0) (why : OpenFault) → IsOfJournal (failed T why)
+        → ((at : ℕ) → IsErrOf (failed T why) (fault.Foreign at)
         → WhereTold (g.image s) (λ image. (list : List (ℕ × List ℕ)) × (journal_of volume size 0 image ≡ Ok list) × FailsAt (empty_tree volume) (entries_above 0 list) image at))
         → WhereBothTold g s (IsRefusedBy volume size why)
-    refused_redone fault.DiskFault of foreign = anyway fault.DiskFault (λ image objects. tt)
-    refused_redone fault.CloudFault of foreign = absurd of
-    refused_redone fault.Memory of foreign = anyway fault.Memory (λ image objects. tt)
-    refused_redone (fault.Foreign at) of foreign =
+    refused_redone T fault.DiskFault of foreign = anyway fault.DiskFault (λ image objects. tt)
+    refused_redone T fault.CloudFault of foreign = absurd of
+    refused_redone T fault.Memory of foreign = anyway fault.Memory (λ image objects. tt)
+    refused_redone T (fault.Foreign at) of foreign =
         WhereBothTold-from g s (IsRefusedBy volume size (fault.Foreign at))
-        (λ image objects told held.
-        ((none_at objects held).no_checkpoint,
-        inr (WhereTold-at (g.image s) (λ x. (list : List (ℕ × List ℕ)) × (journal_of volume size 0 x ≡ Ok list) × FailsAt (empty_tree volume) (entries_above 0 list) x at) image told (foreign at refl))))
-    refused_redone (fault.Lost lost) of foreign = absurd of
-    refused_redone fault.Worn of foreign = absurd of
+        (λ image objects told held. (
+          (none_at objects held).no_checkpoint,
+          inr (WhereTold-at (g.image s) (λ x. (list : List (ℕ × List ℕ)) × (journal_of volume size 0 x ≡ Ok list) × FailsAt (empty_tree volume) (entries_above 0 list) x at) image told (foreign at refl)),
+        ))
+    refused_redone T (fault.Lost lost) of foreign = absurd of
+    refused_redone T fault.Worn of foreign = absurd of
 
   -- where a sound site is refused, it is by its devices or for want of memory
-  pub sound_ends : {T : Type 0} (why : OpenFault) → WhereBothTold g s (IsRefusedBy volume size why)
-      → WhereBothTold g s (λ image objects. IsSound volume size image objects → IsOfDevices {T = T} (Err why))
-  sound_ends {T} why refused =
-      WhereBothTold-from g s (λ image objects. IsSound volume size image objects → IsOfDevices {T = T} (Err why))
+  pub sound_ends : (T : Type 0) (why : OpenFault) → WhereBothTold g s (IsRefusedBy volume size why)
+      → WhereBothTold g s (λ image objects. IsSound volume size image objects → IsOfDevices (failed T why))
+  sound_ends T why refused =
+      WhereBothTold-from g s (λ image objects. IsSound volume size image objects → IsOfDevices (failed T why))
       (λ image objects told held is.
-      sound_unrefused volume size image objects is why
+      sound_unrefused volume size image objects is T why
       (WhereTold-at (g.objects s) (IsRefusedBy volume size why image) objects held
       (WhereTold-at (g.image s) (λ x. WhereTold (g.objects s) (IsRefusedBy volume size why x)) image told refused)))
-
-  pub sound_goes : {T : Type 0} (x : T) → WhereBothTold g s (λ image objects. IsSound volume size image objects → IsOfDevices (Ok x))
-  sound_goes x = WhereBothTold-from g s (λ image objects. IsSound volume size image objects → IsOfDevices (Ok x)) (λ image objects told held is. tt)
-
--- an end behind the list, by what the cloud held
-pub judged_behind : {T : Type 0} (told : Option CloudMap) (why : OpenFault) → IsOfReading {T = T} (Err why) → WhereTold told IsClaimable → WhereTold told (IsJudged {T = T} (Err why))
-judged_behind None why of claimable = tt
-judged_behind (Some objects) fault.DiskFault of claimable = claimable
-judged_behind (Some objects) fault.CloudFault of claimable = tt
-judged_behind (Some objects) fault.Memory of claimable = tt
-judged_behind (Some objects) (fault.Foreign at) of claimable = claimable
-judged_behind (Some objects) (fault.Lost lost) of claimable = absurd of
-judged_behind (Some objects) fault.Worn of claimable = absurd of
-
--- a fault of the journal is one behind the list
-pub of_reading : {T U : Type 0} (why : OpenFault) → IsOfJournal {T = T} (Err why) → IsOfReading {T = U} (Err why)
-of_reading fault.DiskFault of = tt
-of_reading fault.CloudFault of = absurd of
-of_reading fault.Memory of = tt
-of_reading (fault.Foreign at) of = tt
-of_reading (fault.Lost lost) of = absurd of
-of_reading fault.Worn of = absurd of

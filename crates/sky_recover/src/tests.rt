@@ -218,7 +218,11 @@ fn check_failing(rt: &impl Abort, alloc: Global, call: u64, happened: bool) -> R
     };
     let of_devices = matches!(fault, OpenFault::DiskFault | OpenFault::CloudFault);
     assert!(rt; of_devices, "{fault:?} in call {call}");
-    let epoch = if site.held(name(1, 0, false)).is_some() { 2 } else { 1 };
+    let epoch = if site.held(name(1, 0, false)).is_some() {
+        2
+    } else {
+        1
+    };
     let mut left = site.stopped(site.calls(), 0)?;
     expect(rt, alloc, &mut left, epoch, 0)?;
     Ok(true)
@@ -245,7 +249,11 @@ fn a_stop_leaves_what_is_found(rt: HostRuntime) -> Result<(), Fail> {
     for call in from..site.calls() {
         for part in 1..3 {
             let mut left = site.stopped(call, part)?;
-            let epoch = if left.held(name(2, 0, false)).is_some() { 3 } else { 2 };
+            let epoch = if left.held(name(2, 0, false)).is_some() {
+                3
+            } else {
+                2
+            };
             expect(&rt, alloc, &mut left, epoch, 2)?;
         }
     }

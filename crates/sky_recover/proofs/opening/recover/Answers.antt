@@ -1,11 +1,14 @@
-use Rattle.std.proofs.Common.{◌≡◌, ℕ, List, Err, refl, ap, ◌∙◌}
+use Rattle.std.specs.Prelude.{nat_lt}
+use Rattle.std.proofs.Common.{◌≡◌, ℕ, Err, refl, ap, ◌∙◌}
 use Rattle.std.proofs.lemmas.Result.{err_from_is_err_and}
+use Rattle.sky_calls.specs.Durable.{DurableView}
 use Rattle.sky_journal.specs.Journal.{JournalView, number_behind}
 use Rattle.sky_outside.specs.Told.{WhereTold}
 use Rattle.sky_sound.specs.Entries.{journal_of}
 use Rattle.sky_recover.specs.Opening.{IsOpened, LeavesFound, WhereBothTold}
 use Rattle.sky_recover.specs.Refusals.{IsRefusedBy}
 use Rattle.sky_recover.specs.Steps.{KeepsEntries}
+use Rattle.sky_recover.specs.declared.opened.Opened.{Opened}
 use Rattle.sky_recover.proofs.Ends.{at_settings, fails_there, foreign_there, unread_listed, unread_put, unread_read}
 use Rattle.sky_recover.proofs.Moments.{found_kept, found_put}
 use Rattle.sky_recover.proofs.Outcome.{opened}
@@ -16,7 +19,7 @@ use Rattle.sky_recover.proofs.opening.recover.Goals as goal
 
 pub returns-in_err-journal-clause-any_moment : goal.returns-in_err-journal-clause-any_moment
 returns-in_err-journal-clause-any_moment g c =
-    found_put g.S.Storage c.args.settings.now.volume c.args.settings.now.journal_area c.args.site.now c.find_epoch.new.cloud c.in_ok-epoch.epoch c.requires c.find_epoch.ensures.looks
+    found_put g.S.Storage c.args.settings.now.volume c.args.settings.now.journal_area c.args.site.now c.find_epoch.new.cloud c.in_ok-epoch.epoch c.requires.settled c.find_epoch.ensures.looks
     c.in_ok-epoch.ensures.epoch c.read_and_claim.new.site c.read_and_claim.ensures.any_moment
 
 pub returns-in_err-journal-clause-refused : goal.returns-in_err-journal-clause-refused
@@ -25,7 +28,7 @@ returns-in_err-journal-clause-refused g c =
     rw (p.1, p.2)
     (at_settings (λ v a. WhereBothTold g.S.Storage c.args.site.now (IsRefusedBy v a c.in_err-journal.field-0.0)) c.volume-volume.result c.args.settings.now.volume c.journal_area-area.result
     c.args.settings.now.journal_area c.volume-volume.ensures.same c.journal_area-area.ensures.same
-    (refused_read g.S.Storage c.volume-volume.result c.journal_area-area.result c.args.site.now c.in_ok-epoch.ensures.judged c.in_err-journal.field-0.0 c.in_err-journal.ensures.faults
+    (refused_read g.S.Storage c.volume-volume.result c.journal_area-area.result c.args.site.now c.in_ok-epoch.ensures.judged JournalView c.in_err-journal.field-0.0 c.in_err-journal.ensures.faults
     (λ at is.
     foreign_there g.S.Storage c.volume-volume.result c.journal_area-area.result c.args.site.now c.find_epoch.new.cloud c.find_epoch.ensures.looks at (c.in_err-journal.ensures.foreign at is))))
 
@@ -33,11 +36,11 @@ pub returns-in_err-journal-clause-sound : goal.returns-in_err-journal-clause-sou
 returns-in_err-journal-clause-sound g c =
     let p = err_from_is_err_and c.from_residual-in_err-journal.result c.from_residual-in_err-journal.ensures.1 in
     rw p.1
-    (sound_ends g.S.Storage c.args.settings.now.volume c.args.settings.now.journal_area c.args.site.now p.0
+    (sound_ends g.S.Storage c.args.settings.now.volume c.args.settings.now.journal_area c.args.site.now (DurableView × Opened) p.0
     (rw p.2
     (at_settings (λ v a. WhereBothTold g.S.Storage c.args.site.now (IsRefusedBy v a c.in_err-journal.field-0.0)) c.volume-volume.result c.args.settings.now.volume c.journal_area-area.result
     c.args.settings.now.journal_area c.volume-volume.ensures.same c.journal_area-area.ensures.same
-    (refused_read g.S.Storage c.volume-volume.result c.journal_area-area.result c.args.site.now c.in_ok-epoch.ensures.judged c.in_err-journal.field-0.0 c.in_err-journal.ensures.faults
+    (refused_read g.S.Storage c.volume-volume.result c.journal_area-area.result c.args.site.now c.in_ok-epoch.ensures.judged JournalView c.in_err-journal.field-0.0 c.in_err-journal.ensures.faults
     (λ at is.
     foreign_there g.S.Storage c.volume-volume.result c.journal_area-area.result c.args.site.now c.find_epoch.new.cloud c.find_epoch.ensures.looks at (c.in_err-journal.ensures.foreign at is))))))
 
@@ -61,7 +64,7 @@ pub returns-in_err-durable-clause-any_moment : goal.returns-in_err-durable-claus
 returns-in_err-durable-clause-any_moment g c =
     at_settings (λ v a. LeavesFound g.S.Storage v a c.args.site.now c.continue_from.new.disk) c.volume-volume.result c.args.settings.now.volume c.journal_area-area.result c.args.settings.now.journal_area
     c.volume-volume.ensures.same c.journal_area-area.ensures.same
-    (found_kept g.S.Storage c.volume-volume.result c.journal_area-area.result c.args.site.now c.find_epoch.new.cloud c.in_ok-epoch.epoch c.requires c.find_epoch.ensures.looks c.in_ok-epoch.ensures.epoch
+    (found_kept g.S.Storage c.volume-volume.result c.journal_area-area.result c.args.site.now c.find_epoch.new.cloud c.in_ok-epoch.epoch c.requires.settled c.find_epoch.ensures.looks c.in_ok-epoch.ensures.epoch
     c.read_and_claim.new.site c.continue_from.new.disk c.read_and_claim.ensures.any_moment c.read_and_claim.ensures.image c.in_ok-journal.ensures.claimed
     (at_settings (λ v a. KeepsEntries g.S.Storage v a c.read_and_claim.new.site c.continue_from.new.disk) c.in_ok-journal.journal.volume c.volume-volume.result c.in_ok-journal.journal.size
     c.journal_area-area.result c.in_ok-journal.ensures.volume c.in_ok-journal.ensures.size c.continue_from.ensures.any_moment))
@@ -72,7 +75,7 @@ returns-in_err-durable-clause-refused g c =
     rw (p.1, p.2)
     (at_settings (λ v a. WhereBothTold g.S.Storage c.args.site.now (IsRefusedBy v a c.in_err-durable.field-0.0)) c.volume-volume.result c.args.settings.now.volume c.journal_area-area.result
     c.args.settings.now.journal_area c.volume-volume.ensures.same c.journal_area-area.ensures.same
-    (refused_redone g.S.Storage c.volume-volume.result c.journal_area-area.result c.args.site.now c.in_ok-epoch.ensures.judged c.in_err-durable.field-0.0 c.in_err-durable.ensures.faults
+    (refused_redone g.S.Storage c.volume-volume.result c.journal_area-area.result c.args.site.now c.in_ok-epoch.ensures.judged DurableView c.in_err-durable.field-0.0 c.in_err-durable.ensures.faults
     (λ at is.
     fails_there g.S.Storage c.volume-volume.result c.journal_area-area.result c.args.site.now c.find_epoch.new.cloud c.find_epoch.ensures.looks c.read_and_claim.new.site c.in_ok-journal.journal
     c.in_ok-journal.ensures.volume c.in_ok-journal.ensures.size c.read_and_claim.ensures.image c.in_ok-journal.ensures.read at (c.in_err-durable.ensures.foreign at is))))
@@ -81,11 +84,11 @@ pub returns-in_err-durable-clause-sound : goal.returns-in_err-durable-clause-sou
 returns-in_err-durable-clause-sound g c =
     let p = err_from_is_err_and c.from_residual-in_err-durable.result c.from_residual-in_err-durable.ensures.1 in
     rw p.1
-    (sound_ends g.S.Storage c.args.settings.now.volume c.args.settings.now.journal_area c.args.site.now p.0
+    (sound_ends g.S.Storage c.args.settings.now.volume c.args.settings.now.journal_area c.args.site.now (DurableView × Opened) p.0
     (rw p.2
     (at_settings (λ v a. WhereBothTold g.S.Storage c.args.site.now (IsRefusedBy v a c.in_err-durable.field-0.0)) c.volume-volume.result c.args.settings.now.volume c.journal_area-area.result
     c.args.settings.now.journal_area c.volume-volume.ensures.same c.journal_area-area.ensures.same
-    (refused_redone g.S.Storage c.volume-volume.result c.journal_area-area.result c.args.site.now c.in_ok-epoch.ensures.judged c.in_err-durable.field-0.0 c.in_err-durable.ensures.faults
+    (refused_redone g.S.Storage c.volume-volume.result c.journal_area-area.result c.args.site.now c.in_ok-epoch.ensures.judged DurableView c.in_err-durable.field-0.0 c.in_err-durable.ensures.faults
     (λ at is.
     fails_there g.S.Storage c.volume-volume.result c.journal_area-area.result c.args.site.now c.find_epoch.new.cloud c.find_epoch.ensures.looks c.read_and_claim.new.site c.in_ok-journal.journal
     c.in_ok-journal.ensures.volume c.in_ok-journal.ensures.size c.read_and_claim.ensures.image c.in_ok-journal.ensures.read at (c.in_err-durable.ensures.foreign at is))))))
@@ -105,7 +108,7 @@ pub returns-clause-any_moment : goal.returns-clause-any_moment
 returns-clause-any_moment g c =
     at_settings (λ v a. LeavesFound g.S.Storage v a c.args.site.now c.continue_from.new.disk) c.volume-volume.result c.args.settings.now.volume c.journal_area-area.result c.args.settings.now.journal_area
     c.volume-volume.ensures.same c.journal_area-area.ensures.same
-    (found_kept g.S.Storage c.volume-volume.result c.journal_area-area.result c.args.site.now c.find_epoch.new.cloud c.in_ok-epoch.epoch c.requires c.find_epoch.ensures.looks c.in_ok-epoch.ensures.epoch
+    (found_kept g.S.Storage c.volume-volume.result c.journal_area-area.result c.args.site.now c.find_epoch.new.cloud c.in_ok-epoch.epoch c.requires.settled c.find_epoch.ensures.looks c.in_ok-epoch.ensures.epoch
     c.read_and_claim.new.site c.continue_from.new.disk c.read_and_claim.ensures.any_moment c.read_and_claim.ensures.image c.in_ok-journal.ensures.claimed
     (at_settings (λ v a. KeepsEntries g.S.Storage v a c.read_and_claim.new.site c.continue_from.new.disk) c.in_ok-journal.journal.volume c.volume-volume.result c.in_ok-journal.journal.size
     c.journal_area-area.result c.in_ok-journal.ensures.volume c.in_ok-journal.ensures.size c.continue_from.ensures.any_moment))
@@ -121,10 +124,10 @@ returns-clause-unread g c =
 
 pub returns-clause-found : goal.returns-clause-found
 returns-clause-found g c =
-    at_settings
-    (λ v a. IsOpened g.S.Storage v a c.args.site.now c.continue_from.new.disk c.in_ok-durable.durable _) c.volume-volume.result c.args.settings.now.volume c.journal_area-area.result
+    let o : Opened = record { epoch = c.in_ok-epoch.epoch; k = c.stored-k.result; journal = nat_lt 0 c.stored-k.result } in
+    at_settings (λ v a. IsOpened g.S.Storage v a c.args.site.now c.continue_from.new.disk c.in_ok-durable.durable o) c.volume-volume.result c.args.settings.now.volume c.journal_area-area.result
     c.args.settings.now.journal_area c.volume-volume.ensures.same c.journal_area-area.ensures.same
-    (opened g.S.Storage c.volume-volume.result c.journal_area-area.result c.args.site.now c.read_and_claim.new.site c.continue_from.new.disk c.in_ok-journal.journal c.in_ok-durable.durable _
+    (opened g.S.Storage c.volume-volume.result c.journal_area-area.result c.args.site.now c.read_and_claim.new.site c.continue_from.new.disk c.in_ok-journal.journal c.in_ok-durable.durable o
     c.in_ok-journal.ensures.is c.in_ok-journal.ensures.volume c.in_ok-journal.ensures.size (c.read_and_claim.ensures.image ∙ c.find_epoch.ensures.looks.image) c.in_ok-journal.ensures.read
     c.in_ok-durable.ensures.continued c.in_ok-durable.ensures.is (c.valid_trees_stay_valid.ensures.begins c.volume-volume.result c.volume-volume.ensures.in_range.1) c.in_ok-epoch.ensures.epoch
     c.in_ok-epoch.ensures.judged (c.stored-k.ensures ∙ ap (λ (j : JournalView). number_behind j.newer 0) c.journal.ensures) refl)
