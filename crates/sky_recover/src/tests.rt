@@ -228,16 +228,20 @@ fn check_failing(rt: &impl Abort, alloc: Global, call: u64, happened: bool) -> R
     Ok(true)
 }
 
+/// How many calls an opening of a blank site makes: a list, a look at the gate of each area, a put, and for the area that it opens
+/// two writes, each with a sync.
+const CALLS: u64 = 8;
+
 #[test]
 fn a_call_that_fails_is_told(rt: HostRuntime) -> Result<(), Fail> {
     let alloc = rt.alloc();
-    for call in 0..60 {
-        if !check_failing(&rt, alloc, call, call % 2 == 0)? {
-            assert!(rt; call > 8, "{call} calls");
-            return Ok(());
-        }
+    for call in 0..9 {
+        let failed = check_failing(&rt, alloc, call, false)?;
+        assert_eq!(rt; failed, call < CALLS, "call {call}");
+        let happened = check_failing(&rt, alloc, call, true)?;
+        assert_eq!(rt; happened, call < CALLS, "call {call}");
     }
-    Err("fewer calls".into())
+    Ok(())
 }
 
 #[test]
@@ -247,7 +251,7 @@ fn a_stop_leaves_what_is_found(rt: HostRuntime) -> Result<(), Fail> {
     let from = site.calls();
     expect(&rt, alloc, &mut site, 2, 2)?;
     for call in from..site.calls() {
-        for part in 1..3 {
+        for part in 0..3 {
             let mut left = site.stopped(call, part)?;
             let epoch = if left.held(name(2, 0, false)).is_some() {
                 3
