@@ -2,7 +2,6 @@ mod Endings
 mod Comparing
 mod OneReading
 pub mod Existing
-mod Sites
 mod Going
 mod Leaving
 mod Stopping

@@ -1,3 +1,4 @@
+pub mod Adapter
 pub mod Words
 pub mod Run
 pub mod Stop
