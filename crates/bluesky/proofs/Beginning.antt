@@ -1,27 +1,35 @@
 -- How a run begins, and how it ends before its first frame.
-use Rattle.std.proofs.Common.{◌≡◌, ◌≢◌, ◌⊎◌, inl, inr, ◌≤◌, ◌∙◌, sym, ℕ, true, false, eqb, Option, Result, Ok, Err, List, [], ◌∷◌, length, take, OnOk, OnErr, IfErr, IsErrOf, refl, subst, arith}
+use Rattle.std.proofs.Common.{◌≡◌, ◌≢◌, ◌⊎◌, inl, inr, ◌≤◌, ◌∙◌, sym, ap, ℕ, Bool, true, false, eqb, Option, Some, Result, Ok, Err, List, [], ◌∷◌, length, take, OnOk, OnErr, IfErr, IsErr, IsErrOf, refl, subst, arith}
 use Rattle.std.specs.Result.{is_err}
 use Rattle.std.proofs.lemmas.List.{length-take}
+use Rattle.std.proofs.lemmas.Bool.{true≢false}
 use lib.Pointwise.{pointwise}
+use Rattle.sky_base.specs.declared.place.Lost.TheVariants as lost
 use Rattle.sky_base.specs.declared.status.Status.{Status}
 use Rattle.sky_base.specs.declared.status.Status.TheVariants as status
+use Rattle.sky_nfs.specs.History.{history_length}
+use Rattle.sky_outside.specs.CloudMap.{CloudMap}
 use Rattle.sky_outside.specs.Count.{Counts, Rose}
-use Rattle.sky_outside.specs.Told.{HadPart, Given, GivenPart}
-use Rattle.sky_outside.proofs.ToldLaws.{Given-then, GivenPart-then, GivenPart-first}
+use Rattle.sky_outside.specs.Moments.{NothingPending}
+use Rattle.sky_outside.specs.Told.{Had, HadPart, Given, GivenPart}
+use Rattle.sky_outside.specs.declared.storage.Storage.{Ghosts}
+use Rattle.sky_outside.proofs.ToldLaws.{Given-then}
+use Rattle.sky_recover.specs.Opening.{Found, IsFoundOn, LeavesFound, WhereBothTold}
 use Rattle.sky_script.specs.Frame.{out_frame, out_frames, magic}
 use Rattle.sky_script.specs.Beginning.{HadSome}
 use Rattle.sky_script.specs.declared.reading.FrameFault.{FrameFault}
 use Rattle.sky_script.specs.declared.reading.FrameFault.TheVariants as fault
-use Rattle.sky_journal.specs.Journal.{JournalView}
-use Rattle.sky_outside.specs.Moments.{NothingPending}
-use Rattle.sky_outside.specs.declared.storage.Storage.{Ghosts}
-use Rattle.sky_world.specs.Meaning.{start, opening}
-use Rattle.sky_world.specs.Opening.{IsOfOpening, LeavesBlank}
-use Rattle.bluesky.specs.Run.{SourceUse, SinkUse, other_magic, within_magic, GaveEnding, SinkCounts, at_opening, in_opening, before_opening, EndsBy, Ran, area_size, journal_on, session_bytes, volume}
-use Rattle.bluesky.specs.Stop.{status_of, NoMagic, IsShort}
-use Rattle.bluesky.proofs.Going.{kept_first, nothing_handled, session-nothing}
-use Rattle.bluesky.proofs.Leaving.{blank_none, blank_run}
-use Rattle.bluesky.proofs.Stopping.{ending_then, ran_as}
+use Rattle.sky_sound.specs.Recovery.{IsSound}
+use Rattle.sky_world.specs.Meaning.{kept_of, opening, start}
+use Rattle.sky_world.specs.Opening.{IsOfOpening, IsRefusedAs}
+use Rattle.sky_world.specs.World.{tells}
+use Rattle.sky_world.proofs.FindingLaws.{both_told_from}
+use Rattle.bluesky.specs.Run.{SourceUse, SinkUse, other_magic, within_magic, GaveUpTo, GaveEnding, GaveUnopened, IsOfDamage, IsReplayed, SinkCounts, at_opening, EndsBy, Ran, RanOn, RanUnopened, area_size, session_bytes, volume}
+use Rattle.bluesky.specs.Stop.{status_of, NoMagic, IsShort, Opened}
+use Rattle.bluesky.proofs.Going.{nothing_handled, session-nothing}
+use Rattle.bluesky.proofs.Leaving.{opened_run}
+use Rattle.bluesky.proofs.Sites.{found_none}
+use Rattle.bluesky.proofs.Stopping.{ending_then, part_then, ran_as, rose_on}
 
 pub on_err_at : {X E P : Type 0} (r : Result X E) → is_err r ≡ true → OnErr r P → P
 on_err_at (Ok x) e p = absurd cc
@@ -49,82 +57,67 @@ had_short a b bytes long part = (take part.0 bytes, omega (arith, part.1, length
 
 -- ---- the opening
 
--- the magic, or a part of it
-pub opening_cut : (a b : Option (List ℕ)) → GivenPart a b magic → GivenPart a b (session_bytes [])
-opening_cut a b part = GivenPart-first a b magic (out_frames (opening ∷ [])) part
+-- the magic, and the frame of the opening
+pub opening_whole : (found : Found) (a b c : Option (List ℕ)) → Given a b magic → Given b c (out_frame (opening found)) → Given a c (session_bytes found [])
+opening_whole found a b c given more = subst (λ (x : List ℕ). Given a c x) (session-nothing found) (Given-then a b c magic (out_frame (opening found)) given more)
 
--- the magic, and a part of the frame of the opening
-pub opening_part : (a b c : Option (List ℕ)) → Given a b magic → GivenPart b c (out_frame opening) → GivenPart a c (session_bytes [])
-opening_part a b c given part = subst (λ (x : List ℕ). GivenPart a c x) session-nothing (GivenPart-then a b c magic (out_frame opening) given part)
+-- ---- a run that did not open its site
 
--- and all of it
-pub opening_whole : (a b c : Option (List ℕ)) → Given a b magic → Given b c (out_frame opening) → Given a c (session_bytes [])
-opening_whole a b c given more = subst (λ (x : List ℕ). Given a c x) session-nothing (Given-then a b c magic (out_frame opening) given more)
+-- the other statuses are refused by nothing that a site has
+no_refusal : {S : Type 0} (g : Ghosts S) (s : S) (v : Status) → ((image : List ℕ) (objects : CloudMap) → IsRefusedAs volume area_size v image objects) → WhereBothTold g s (IsRefusedAs volume area_size v)
+no_refusal g s v holds = both_told_from g s (IsRefusedAs volume area_size v) (λ image objects is held. holds image objects)
 
--- ---- a run without frames
-
--- from s to t the journal was opened, or not yet
-module _ {S : Type 0} (g : Ghosts S) (s t : S) (had left before after : Option (List ℕ)) (x z : ℕ) (blank : LeavesBlank g volume area_size s t) where
-  abbrev source : SourceUse
-  source = record { had = had; left = left }
-
-  abbrev sink : SinkUse
-  sink = record { before = before; after = after; faults_before = x; faults_after = z }
-
-  abbrev journal : JournalView
-  journal = journal_on (g.bytes_of s)
-
-  -- a run that handled nothing
-  ran : (v : Status) → EndsBy v source sink [] [] (start journal) (kept_first journal) → Ran g s t v source sink
-  ran v ends = record {
-    frames = [];
-    answers = [];
-    last = start journal;
-    reached = kept_first journal;
-    handled = nothing_handled journal;
-    ends = ends;
-    leaves = blank_run g s t (g.bytes_of s) blank;
-  }
-
-  -- the sink failed at the opening
-  pub ran_unopened : left ≡ had → GivenPart before after (session_bytes []) → Ran g s t status.SinkFault source sink
-  ran_unopened same part = ran status.SinkFault (omega arith, at_opening refl refl same (record { kept = part.0; less = part.1; given = part.2 }))
-
-  -- there was no journal that can be opened, or no memory to begin with
-  pub ran_out : (v : Status) → IsOfOpening v → left ≡ had → GaveEnding sink magic v → Ran g s t v source sink
-  ran_out status.Memory of same ending = ran status.Memory ((omega arith, before_opening refl same ending), refl)
-  ran_out status.JournalFault of same ending = ran status.JournalFault (omega arith, in_opening refl refl same ending)
-  ran_out (status.Foreign at) of same ending = ran (status.Foreign at) ((refl, same, ending), refl)
-  ran_out status.Done of same ending = absurd of
-  ran_out status.Words of same ending = absurd of
-  ran_out (status.Malformed at) of same ending = absurd of
-  ran_out status.Early of same ending = absurd of
-  ran_out status.SourceFault of same ending = absurd of
-  ran_out status.SinkFault of same ending = absurd of
-  ran_out status.Long of same ending = absurd of
-  ran_out status.Settings of same ending = absurd of
-  ran_out status.CloudFault of same ending = absurd of
-  ran_out (status.Missing name) of same ending = absurd of
-  ran_out (status.Damaged name damage) of same ending = absurd of
-  ran_out status.Worn of same ending = absurd of
-
-  -- the source doesn't begin with the magic
-  pub ran_otherwise : (f : FrameFault) (v : Status) → v ≡ status_of f → NoMagic f had left → GaveEnding sink (session_bytes []) (status_of f) → Ran g s t v source sink
-  ran_otherwise fault.Malformed v is none ending =
-      ran_as g s t v (status.Malformed 0) source sink is
-      (ran (status.Malformed 0) (((omega arith, other_magic none.0 refl refl none.1.0 none.1.1 none.2), ending), refl))
-  ran_otherwise fault.Early v is none ending =
-      let some = none.0 in
-      ran_as g s t v status.Early source sink is (ran status.Early (((omega arith, within_magic some.0 refl some.1 some.2, none.1), ending), refl))
-  ran_otherwise fault.SourceFault v is none ending =
-      ran_as g s t v status.SourceFault source sink is (ran status.SourceFault ((omega arith, within_magic none.0 refl none.1 none.2, ending), refl))
-
+module _ {S : Type 0} (g : Ghosts S) (s : S) (nothing : NothingPending g s) where
   -- the words or the settings are refused
-  pub ran_refused_words : left ≡ had → after ≡ before → Ran g s t status.Words source sink
-  ran_refused_words same unwritten = ran status.Words ((refl, same, unwritten), refl)
+  pub ran_refused_words : (had before : Option (List ℕ)) (x z : ℕ)
+      → Ran g s s status.Words (record { had = had; left = had }) (record { before = before; after = before; faults_before = x; faults_after = z })
+  ran_refused_words had before x z = inl (record {
+    took = refl;
+    gave = refl;
+    refused = no_refusal g s status.Words (λ image objects. tt);
+    leaves = found_none g s nothing;
+  })
 
-  pub ran_refused_settings : left ≡ had → after ≡ before → Ran g s t status.Settings source sink
-  ran_refused_settings same unwritten = ran status.Settings ((refl, same, unwritten), refl)
+  pub ran_refused_settings : (had before : Option (List ℕ)) (x z : ℕ)
+      → Ran g s s status.Settings (record { had = had; left = had }) (record { before = before; after = before; faults_before = x; faults_after = z })
+  ran_refused_settings had before x z = inl (record {
+    took = refl;
+    gave = refl;
+    refused = no_refusal g s status.Settings (λ image objects. tt);
+    leaves = found_none g s nothing;
+  })
+
+  -- the sink failed at the magic
+  pub ran_unwritten : (v : Status) (had before after : Option (List ℕ)) (x z : ℕ) → v ≡ status.SinkFault → GivenPart before after magic
+      → Ran g s s v (record { had = had; left = had }) (record { before = before; after = after; faults_before = x; faults_after = z })
+  ran_unwritten v had before after x z is part =
+      let at : SinkUse = record { before = before; after = after; faults_before = x; faults_after = z } in
+      let of : RanUnopened g s s status.SinkFault (record { had = had; left = had }) at =
+      record {
+        took = refl;
+        gave = record { kept = part.0; less = part.1; given = part.2 };
+        refused = no_refusal g s status.SinkFault (λ image objects. tt);
+        leaves = found_none g s nothing;
+      } in
+      inl (subst (λ (w : Status). RanUnopened g s s w (record { had = had; left = had }) at) (sym is) of)
+
+-- the last frame, by a status of an opening
+gave_unopened : (v : Status) (sink : SinkUse) → IsOfOpening v → GaveEnding sink magic v → GaveUnopened v sink
+gave_unopened status.Memory sink of gave = gave
+gave_unopened status.JournalFault sink of gave = gave
+gave_unopened status.CloudFault sink of gave = gave
+gave_unopened (status.Foreign at) sink of gave = gave
+gave_unopened (status.Missing name) sink of gave = gave
+gave_unopened (status.Damaged name damage) sink of gave = gave
+gave_unopened status.Worn sink of gave = gave
+gave_unopened status.Done sink of gave = absurd of
+gave_unopened status.Words sink of gave = absurd of
+gave_unopened (status.Malformed at) sink of gave = absurd of
+gave_unopened status.Early sink of gave = absurd of
+gave_unopened status.SourceFault sink of gave = absurd of
+gave_unopened status.SinkFault sink of gave = absurd of
+gave_unopened status.Long sink of gave = absurd of
+gave_unopened status.Settings sink of gave = absurd of
 
 -- a status of an opening blames no sink
 of_not_sink : (v : Status) → IsOfOpening v → v ≡ status.SinkFault → ⊥
@@ -134,39 +127,94 @@ of_not_done : (v : Status) → IsOfOpening v ⊎ (v ≡ status.SinkFault) → v 
 of_not_done v (inl of) is = subst IsOfOpening is of
 of_not_done v (inr sink) is = absurd cc
 
--- a count that rose, and then did not fall
-rose_on : (x y z : ℕ) → Rose x y → y ≤ z → Rose x z
-rose_on x y z rose le = omega (arith, rose, le)
+-- ---- a run that handled no frame
 
--- what is known of an opening that ended with this status
-err_is : {X E : Type 0} (r : Result X E) (d : E) (P : E → Type 0) → r ≡ Err d → IfErr r P → P d
-err_is (Ok x) d P is holds = absurd cc
-err_is (Err v) d P is holds = let same : v ≡ d = cc in subst P same holds
+-- from s to t the site was opened, which found this; then the source was left so, and the sink was given this
+module _ {S : Type 0} (g : Ghosts S) (s t : S) (found : Found) (on : IsFoundOn g volume area_size s found) (leaves : LeavesFound g volume area_size s t) where
+  ran_none : (v : Status) (source : SourceUse) (sink : SinkUse)
+      → EndsBy v source sink found [] [] (start (tells g s) found) (history_length found.history) (kept_of found) → RanOn g s t v source sink
+  ran_none v source sink ends = record {
+    found = found;
+    frames = [];
+    answers = [];
+    last = start (tells g s) found;
+    floor = history_length found.history;
+    reached = kept_of found;
+    opened = on;
+    handled = nothing_handled (start (tells g s) found);
+    ends = ends;
+    leaves = opened_run g s t found (start (tells g s) found) on leaves;
+  }
 
--- a run whose opening failed with this status
-pub ran_failed : {X S : Type 0} (g : Ghosts S) (s t : S) (had before mid after : Option (List ℕ)) (x y z : ℕ) → LeavesBlank g volume area_size s t
-    → (r : Result X Status) (d w : Status) → r ≡ Err d → w ≡ d → IsOfOpening d ⊎ (d ≡ status.SinkFault) → IfErr r (λ e. IsOfOpening e → Given before mid magic)
-    → (IsErrOf r status.SinkFault → GivenPart before mid (session_bytes [])) → Counts x y (IsErrOf r status.SinkFault) → (d ≡ status.SinkFault → after ≡ mid)
-    → ((d ≡ status.SinkFault → ⊥) → GaveEnding (record { before = mid; after = after; faults_before = y; faults_after = z }) [] d)
-    → Ran g s t w (record { had = had; left = had }) (record { before = before; after = after; faults_before = x; faults_after = z })
-ran_failed g s t had before mid after x y z blank r d w is told (inl of) unopened partly counts sunk last =
-    let given : Given before mid magic = err_is r d (λ e. IsOfOpening e → Given before mid magic) is unopened of in
-    let still : y ≡ x = counts.quiet (λ blamed. of_not_sink d of (let e : d ≡ status.SinkFault = cc in e)) in
-    ran_as g s t w d (record { had = had; left = had }) (record { before = before; after = after; faults_before = x; faults_after = z }) told
-    (ran_out g s t had had before after x z blank d of refl (ending_then before mid after x y z magic d still given (last (of_not_sink d of))))
-ran_failed g s t had before mid after x y z blank r d w is told (inr sink) unopened partly counts sunk last =
-    let blamed : r ≡ Err status.SinkFault = cc in
-    ran_as g s t w status.SinkFault (record { had = had; left = had }) (record { before = before; after = after; faults_before = x; faults_after = z }) (told ∙ sink)
-    (ran_unopened g s t had had before after x z blank refl (subst (λ (b : Option (List ℕ)). GivenPart before b (session_bytes [])) (sym (sunk sink)) (partly blamed)))
+  -- the sink failed at the frame of the opening
+  pub ran_cut : (had before mid after : Option (List ℕ)) (x z : ℕ) → Given before mid magic → GivenPart mid after (out_frame (opening found))
+      → RanOn g s t status.SinkFault (record { had = had; left = had }) (record { before = before; after = after; faults_before = x; faults_after = z })
+  ran_cut had before mid after x z given part =
+      ran_none status.SinkFault (record { had = had; left = had }) (record { before = before; after = after; faults_before = x; faults_after = z })
+      (omega arith, at_opening refl refl refl refl (part_then before mid after x z magic (out_frame (opening found)) given part))
 
--- the counts of a sink of a run whose opening failed
-pub failed_counts : {X : Type 0} (x y z : ℕ) (r : Result X Status) (d w : Status) → r ≡ Err d → w ≡ d → IsOfOpening d ⊎ (d ≡ status.SinkFault) → Counts x y (IsErrOf r status.SinkFault) → y ≤ z
-    → SinkCounts x z w
-failed_counts x y z r d w is told of counts grows = record {
-  grows = omega (arith, counts.grows, grows);
-  cause = λ e. let rose : Rose x y = counts.cause (let b : r ≡ Err status.SinkFault = cc in b) in rose_on x y z rose grows;
-  quiet = λ e. absurd (of_not_done d of (sym told ∙ e));
-}
+  -- the source doesn't begin with the magic
+  pub ran_otherwise : (f : FrameFault) (v : Status) (had left before after : Option (List ℕ)) (x z : ℕ) → v ≡ status_of f → NoMagic f had left
+      → GaveEnding (record { before = before; after = after; faults_before = x; faults_after = z }) (session_bytes found []) (status_of f)
+      → RanOn g s t v (record { had = had; left = left }) (record { before = before; after = after; faults_before = x; faults_after = z })
+  ran_otherwise fault.Malformed v had left before after x z is none ending =
+      let source : SourceUse = record { had = had; left = left } in
+      let sink : SinkUse = record { before = before; after = after; faults_before = x; faults_after = z } in
+      ran_as g s t v (status.Malformed 0) source sink is
+      (ran_none (status.Malformed 0) source sink ((omega arith, other_magic none.0 refl refl none.1.0 none.1.1 none.2), ending, (refl, refl)))
+  ran_otherwise fault.Early v had left before after x z is none ending =
+      let source : SourceUse = record { had = had; left = left } in
+      let sink : SinkUse = record { before = before; after = after; faults_before = x; faults_after = z } in
+      let some = none.0 in
+      ran_as g s t v status.Early source sink is
+      (ran_none status.Early source sink ((omega arith, within_magic some.0 refl some.1 some.2, none.1), ending, (refl, refl)))
+  ran_otherwise fault.SourceFault v had left before after x z is none ending =
+      let source : SourceUse = record { had = had; left = left } in
+      let sink : SinkUse = record { before = before; after = after; faults_before = x; faults_after = z } in
+      ran_as g s t v status.SourceFault source sink is
+      (ran_none status.SourceFault source sink (omega arith, within_magic none.0 refl none.1 none.2, ending, (refl, refl)))
+
+-- ---- a run whose opening failed
+
+-- The sink had been given before, then the magic, what the opening gave it, and what followed it; its count was x up to the opening, y behind it, and z at the end.
+module _ {X S : Type 0} (g : Ghosts S) (s t : S) (had before mid more after : Option (List ℕ)) (x y z : ℕ) (r : Result X Status) (d w : Status) (is : r ≡ Err d) (told : w ≡ d) where
+  abbrev source_then : SourceUse
+  source_then = record { had = had; left = had }
+
+  abbrev sink_then : SinkUse
+  sink_then = record { before = before; after = after; faults_before = x; faults_after = z }
+
+  pub ran_failed : LeavesFound g volume area_size s t → Given before mid magic → IsOfOpening d ⊎ (d ≡ status.SinkFault) → (IsOfOpening d → more ≡ mid)
+      → (IsErrOf r status.SinkFault → (found : Found) × IsFoundOn g volume area_size s found × GivenPart mid more (out_frame (opening found)))
+      → WhereBothTold g s (IsRefusedAs volume area_size d) → Counts x y (IsErrOf r status.SinkFault) → (d ≡ status.SinkFault → after ≡ more)
+      → (d ≢ status.SinkFault → GaveEnding (record { before = more; after = after; faults_before = y; faults_after = z }) [] d)
+      → Ran g s t w source_then sink_then
+  ran_failed leaves given (inl of) unwritten partly refused counts sunk last =
+      let still : y ≡ x = counts.quiet (λ blamed. of_not_sink d of (let e : d ≡ status.SinkFault = cc in e)) in
+      let same : more ≡ mid = unwritten of in
+      let there : Given before more magic = subst (λ (b : Option (List ℕ)). Given before b magic) (sym same) given in
+      let ending : GaveEnding sink_then magic d = ending_then before more after x y z magic d still there (last (of_not_sink d of)) in
+      let ran : RanUnopened g s t d source_then sink_then =
+      record {
+        took = refl;
+        gave = gave_unopened d sink_then of ending;
+        refused = refused;
+        leaves = leaves;
+      } in
+      inl (subst (λ (v : Status). RanUnopened g s t v source_then sink_then) (sym told) ran)
+  ran_failed leaves given (inr sink) unwritten partly refused counts sunk last =
+      let blamed : r ≡ Err status.SinkFault = cc in
+      let part = partly blamed in
+      let moved = subst (λ (b : Option (List ℕ)). GivenPart mid b (out_frame (opening part.0))) (sym (sunk sink)) part.2 in
+      inr (ran_as g s t w status.SinkFault source_then sink_then (told ∙ sink) (ran_cut g s t part.0 part.1 leaves had before mid after x z given moved))
+
+  -- the counts of its sink
+  pub failed_counts : IsOfOpening d ⊎ (d ≡ status.SinkFault) → Counts x y (IsErrOf r status.SinkFault) → y ≤ z → SinkCounts x z w
+  failed_counts of counts grows = record {
+    grows = omega (arith, counts.grows, grows);
+    cause = λ e. let rose : Rose x y = counts.cause (let b : r ≡ Err status.SinkFault = cc in b) in rose_on x y z rose grows;
+    quiet = λ e. absurd (of_not_done d of (sym told ∙ e));
+  }
 
 -- ---- counts of a run without frames
 
@@ -175,3 +223,9 @@ pub magic_blamed : (f : FrameFault) (s : Status) → s ≡ status_of f → (s �
 magic_blamed fault.Malformed s is = (λ e. absurd cc, λ e. absurd cc)
 magic_blamed fault.Early s is = (λ e. absurd cc, λ e. absurd cc)
 magic_blamed fault.SourceFault s is = (λ e. refl, λ e. is)
+
+-- and says nothing of what the site had
+pub magic_sound : (f : FrameFault) (s : Status) → s ≡ status_of f → IsOfDamage s → ⊥
+magic_sound fault.Malformed s is damage = subst IsOfDamage is damage
+magic_sound fault.Early s is damage = subst IsOfDamage is damage
+magic_sound fault.SourceFault s is damage = subst IsOfDamage is damage

@@ -40,6 +40,8 @@ is_step mem s t (frame.Bytes session payload) outs step = tt
 is_step mem s t (frame.Close session) outs step = tt
 is_step mem s t (frame.SetMoment at) outs step = tt
 is_step mem s t frame.Stat outs step = tt
+is_step mem s t frame.Restart outs step = tt
+is_step mem s t frame.RestartWithoutJournal outs step = tt
 is_step mem s t frame.End outs step = step
 
 -- two readings of one list of bytes

@@ -1,5 +1,5 @@
 -- Each list of bytes has a reading.
-use Rattle.std.proofs.Common.{◌≡◌, ◌+◌, ◌<◌, ◌≤◌, ◌≢◌, ◌⊎◌, inl, inr, ℕ, zero, suc, Some, List, [], ◌∷◌, ◌++◌, length, take, drop, refl, sym, ap, subst, ◌∙◌, append_assoc, arith}
+use Rattle.std.proofs.Common.{◌≡◌, Bool, true, ◌+◌, ◌<◌, ◌≤◌, ◌≢◌, ◌⊎◌, inl, inr, ℕ, zero, suc, Some, List, [], ◌∷◌, ◌++◌, length, take, drop, refl, sym, ap, subst, ◌∙◌, append_assoc, arith}
 use Rattle.std.specs.List.{AllByRecursion}
 use Rattle.std.specs.Cmp.Lexicographic.{same_text, other_text}
 use Rattle.std.proofs.lemmas.Bool.{cases_lt, cases_Bool}
@@ -11,14 +11,16 @@ use Rattle.sky_base.specs.declared.status.Status.{Status}
 use Rattle.sky_base.specs.declared.status.Status.TheVariants.{Done, Malformed, Early, Long}
 use Rattle.sky_xdr.specs.Encoding.{AreBytes}
 use Rattle.sky_xdr.proofs.Numbers.{AreBytes-drop, AreBytes-take}
-use Rattle.sky_journal.specs.Journal.{JournalView}
-use Rattle.sky_script.specs.Frame.{InFrame, Begin, Bytes, Close, SetMoment, Stat, End, OutFrame, IsInFrame, parts_of, header, in_frame, in_frames, magic}
+use Rattle.sky_recover.specs.Opening.{Found}
+use Rattle.sky_script.specs.Frame.{InFrame, Begin, Bytes, Close, SetMoment, Stat, Restart, RestartWithoutJournal, End, OutFrame, IsInFrame, parts_of, header, in_frame, in_frames, magic}
 use Rattle.sky_script.specs.Beginning.{IsRefused, IsCutShort, within_header, with_frame, with_refused, cut_short}
 use Rattle.sky_script.proofs.FrameLaws.{in_frame_bound, frame-parts}
 use Rattle.sky_script.proofs.Beginnings.{begins}
+use Rattle.sky_world.specs.Laws.{IsForeseen}
 use Rattle.sky_world.specs.Meaning.{State, Ample, start, Absent, Step, Steps, IsStep}
 use Rattle.sky_world.specs.Bytes.{HasBytes, HasByteStreams, CarriesBytes}
 use Rattle.sky_world.proofs.FrameLaws.{step_some}
+use Rattle.sky_world.proofs.SiteLaws.{step_tells}
 use Rattle.sky_world.proofs.PayloadLaws.{are_bytes}
 use Rattle.sky_world.proofs.SessionLaws.{all-replicate}
 use Rattle.bluesky.specs.Run.{frame_limit, Handled, recording, Took, other_magic, no_frame, within_magic, within_frame, IsReading, HasOneReading}
@@ -33,8 +35,8 @@ AreBytes-right : (xs ys : List ℕ) → AreBytes (xs ++ ys) → AreBytes ys
 AreBytes-right xs ys fits = subst AreBytes (drop-append_seam xs ys) (AreBytes-drop (length xs) (xs ++ ys) fits)
 
 -- at the opening no session has a stream
-start_has : (journal : JournalView) → HasByteStreams (start journal)
-start_has journal = all-replicate HasBytes 256 Absent tt
+start_has : (found : Found) → HasByteStreams (start true found)
+start_has found = all-replicate HasBytes 256 Absent tt
 
 -- what a frame carries is bytes, where its payload is
 carries : (f : InFrame) → AreBytes (parts_of f).payload → CarriesBytes f
@@ -43,6 +45,8 @@ carries (Bytes session payload) fits = are_bytes payload fits
 carries (Close session) fits = tt
 carries (SetMoment at) fits = tt
 carries Stat fits = tt
+carries Restart fits = tt
+carries RestartWithoutJournal fits = tt
 carries End fits = tt
 
 -- the payload of a frame among bytes, and what follows it
@@ -58,6 +62,8 @@ end_or_step (Bytes session payload) = inr tt
 end_or_step (Close session) = inr tt
 end_or_step (SetMoment at) = inr tt
 end_or_step Stat = inr tt
+end_or_step Restart = inr tt
+end_or_step RestartWithoutJournal = inr tt
 end_or_step End = inl refl
 
 -- ---- behind the magic
@@ -104,15 +110,26 @@ reads_on s t budget f outs left rest formed step e reads = record {
   stops = stops_on budget f reads.frames left rest e reads.stops;
 }
 
+-- what a frame leads to is known beforehand, on a site that tells what it has
+seen : (told : Bool) (f : InFrame) → told ≡ true → IsForeseen told f
+seen told (Begin session) is = tt
+seen told (Bytes session payload) is = tt
+seen told (Close session) is = tt
+seen told (SetMoment at) is = tt
+seen told Stat is = tt
+seen told Restart is = is
+seen told RestartWithoutJournal is = is
+seen told End is = tt
+
 -- where the bytes begin with a frame
-from_frame : (budget : ℕ) (s : State) (left : List ℕ) (f : InFrame) (rest : List ℕ) → IsInFrame f → left ≡ in_frame f ++ rest → AreBytes left → HasByteStreams s
-    → ((t : State) → HasByteStreams t → ReadsFrom t budget rest) → ReadsFrom s (suc budget) left
-from_frame budget s left f rest formed e fits has next =
+from_frame : (budget : ℕ) (s : State) (left : List ℕ) (f : InFrame) (rest : List ℕ) → IsInFrame f → left ≡ in_frame f ++ rest → AreBytes left → s.told ≡ true → HasByteStreams s
+    → ((t : State) → t.told ≡ true → HasByteStreams t → ReadsFrom t budget rest) → ReadsFrom s (suc budget) left
+from_frame budget s left f rest formed e fits told has next =
     elim (end_or_step f) [
       | inl end ↦ reads_none s (suc budget) left (ends (omega arith) rest (e ∙ ap (λ (x : InFrame). in_frame x ++ rest) end))
       | inr steps ↦
-          let step = step_some Ample s f has (payload_bytes f rest (subst AreBytes e fits)) steps in
-          reads_on s step.1 budget f step.0 left rest formed step.3 e (next step.1 step.2)
+          let step = step_some Ample s f has (payload_bytes f rest (subst AreBytes e fits)) (seen s.told f told) steps in
+          reads_on s step.1 budget f step.0 left rest formed step.3 e (next step.1 (step_tells Ample s step.1 f step.0 step.3 ∙ told) step.2)
     ]
 
 -- what follows a frame is shorter
@@ -120,14 +137,14 @@ rest_shorter : (f : InFrame) (left rest : List ℕ) → IsInFrame f → left ≡
 rest_shorter f left rest formed e = omega (arith, ap length e, length-append (in_frame f) rest, (in_frame_bound f formed).0)
 
 -- each list of bytes, from each state whose streams are bytes
-reads_from : (fuel budget : ℕ) (s : State) (left : List ℕ) → length left ≤ fuel → AreBytes left → HasByteStreams s → ReadsFrom s budget left
-reads_from fuel zero s left long fits has = reads_none s 0 left (full refl left refl)
-reads_from zero (suc budget) s left long fits has = reads_none s (suc budget) left (cut (omega arith) left (within_header (omega arith)) refl)
-reads_from (suc fuel) (suc budget) s left long fits has =
+reads_from : (fuel budget : ℕ) (s : State) (left : List ℕ) → length left ≤ fuel → AreBytes left → s.told ≡ true → HasByteStreams s → ReadsFrom s budget left
+reads_from fuel zero s left long fits told has = reads_none s 0 left (full refl left refl)
+reads_from zero (suc budget) s left long fits told has = reads_none s (suc budget) left (cut (omega arith) left (within_header (omega arith)) refl)
+reads_from (suc fuel) (suc budget) s left long fits told has =
     elim (begins left fits) [
       | with_frame f rest formed e ↦
-          from_frame budget s left f rest formed e fits has
-          (λ t p. reads_from fuel budget t rest (omega (arith, long, rest_shorter f left rest formed e)) (AreBytes-right (in_frame f) rest (subst AreBytes e fits)) p)
+          from_frame budget s left f rest formed e fits told has
+          (λ t same p. reads_from fuel budget t rest (omega (arith, long, rest_shorter f left rest formed e)) (AreBytes-right (in_frame f) rest (subst AreBytes e fits)) same p)
       | with_refused taken rest no_one e ↦ reads_none s (suc budget) left (refused (omega arith) taken rest no_one e)
       | cut_short short ↦ reads_none s (suc budget) left (cut (omega arith) left short refl)
     ]
@@ -135,9 +152,9 @@ reads_from (suc fuel) (suc budget) s left long fits has =
 -- ---- from the magic on
 
 -- a reading of some status
-abbrev HasReading : JournalView → List ℕ → Type 0
-HasReading journal bytes =
-    (frames : List InFrame) × (answers : List OutFrame) × (last : State) × (status : Status) × (rest : List ℕ) × IsReading Ample journal bytes frames answers last status rest
+abbrev HasReading : Found → List ℕ → Type 0
+HasReading found bytes =
+    (frames : List InFrame) × (answers : List OutFrame) × (last : State) × (status : Status) × (rest : List ℕ) × IsReading Ample (start true found) bytes frames answers last status rest
 
 -- what is told was taken
 took : (bytes taken rest : List ℕ) → bytes ≡ taken ++ rest → Took (record { had = Some bytes; left = Some rest }) taken
@@ -150,43 +167,43 @@ taken_behind bytes left frames next rest e is =
     took bytes (recording frames next) rest
     (e ∙ ap (λ (x : List ℕ). magic ++ x) is ∙ sym (append_assoc magic (in_frames frames) (next ++ rest)) ∙ sym (append_assoc (magic ++ in_frames frames) next rest))
 
-behind_magic : (journal : JournalView) (bytes left : List ℕ) (frames : List InFrame) (answers : List OutFrame) (last : State) → bytes ≡ magic ++ left → AllByRecursion IsInFrame frames
-    → Steps Ample (start journal) frames answers last → StopsFrom frame_limit frames left → HasReading journal bytes
-behind_magic journal bytes left frames answers last e formed steps (ends few rest is) =
+behind_magic : (found : Found) (bytes left : List ℕ) (frames : List InFrame) (answers : List OutFrame) (last : State) → bytes ≡ magic ++ left → AllByRecursion IsInFrame frames
+    → Steps Ample (start true found) frames answers last → StopsFrom frame_limit frames left → HasReading found bytes
+behind_magic found bytes left frames answers last e formed steps (ends few rest is) =
     (frames, answers, last, Done, rest, record { handled = record { formed = formed; steps = steps }; read = (few, taken_behind bytes left frames (in_frame End) rest e is) })
-behind_magic journal bytes left frames answers last e formed steps (refused few taken rest no_one is) =
+behind_magic found bytes left frames answers last e formed steps (refused few taken rest no_one is) =
     (frames, answers, last, Malformed (8 + length (in_frames frames)), rest, record { handled = record { formed = formed; steps = steps }; read = (few, no_frame taken refl no_one (taken_behind bytes left frames taken rest e is)) })
-behind_magic journal bytes left frames answers last e formed steps (cut few taken short is) =
+behind_magic found bytes left frames answers last e formed steps (cut few taken short is) =
     let all : left ≡ in_frames frames ++ (taken ++ []) = is ∙ ap (λ (x : List ℕ). in_frames frames ++ x) (sym (append-nil taken)) in
     (frames, answers, last, Early, [], record { handled = record { formed = formed; steps = steps }; read = (few, within_frame taken short (taken_behind bytes left frames taken [] e all), refl) })
-behind_magic journal bytes left frames answers last e formed steps (full all rest is) =
+behind_magic found bytes left frames answers last e formed steps (full all rest is) =
     (frames, answers, last, Long, rest, record { handled = record { formed = formed; steps = steps }; read = (all, taken_behind bytes left frames [] rest e is) })
 
 -- nothing was handled
-none_handled : (journal : JournalView) → Handled Ample journal [] [] (start journal)
-none_handled journal = record { formed = tt; steps = (refl, refl) }
+none_handled : (found : Found) → Handled Ample (start true found) [] [] (start true found)
+none_handled found = record { formed = tt; steps = (refl, refl) }
 
 -- bytes that are no magic, or too few for it
-before_frames : (journal : JournalView) (bytes : List ℕ) → length bytes < 8 → HasReading journal bytes
-before_frames journal bytes short =
-    ([], [], start journal, Early, [], record { handled = none_handled journal; read = (omega arith, within_magic bytes refl short (took bytes bytes [] (sym (append-nil bytes))), refl) })
+before_frames : (found : Found) (bytes : List ℕ) → length bytes < 8 → HasReading found bytes
+before_frames found bytes short =
+    ([], [], start true found, Early, [], record { handled = none_handled found; read = (omega arith, within_magic bytes refl short (took bytes bytes [] (sym (append-nil bytes))), refl) })
 
-no_magic : (journal : JournalView) (bytes : List ℕ) → 8 ≤ length bytes → take 8 bytes ≢ magic → HasReading journal bytes
-no_magic journal bytes long other =
+no_magic : (found : Found) (bytes : List ℕ) → 8 ≤ length bytes → take 8 bytes ≢ magic → HasReading found bytes
+no_magic found bytes long other =
     let read = other_magic (take 8 bytes) refl refl (length-take-le 8 bytes long) other (took bytes (take 8 bytes) (drop 8 bytes) (sym (take-append-drop 8 bytes))) in
-    ([], [], start journal, Malformed 0, drop 8 bytes, record { handled = none_handled journal; read = (omega arith, read) })
+    ([], [], start true found, Malformed 0, drop 8 bytes, record { handled = none_handled found; read = (omega arith, read) })
 
-pub reading_exists : (bytes : List ℕ) (journal : JournalView) → AreBytes bytes → HasReading journal bytes
-reading_exists bytes journal fits =
+pub reading_exists : (bytes : List ℕ) (found : Found) → AreBytes bytes → HasReading found bytes
+reading_exists bytes found fits =
     elim (cases_lt (length bytes) 8) [
-      | inl short ↦ before_frames journal bytes short
+      | inl short ↦ before_frames found bytes short
       | inr long ↦ elim (cases_Bool (pointwise nat_eq (take 8 bytes) magic)) [
-        | inr other ↦ no_magic journal bytes long (other_text (take 8 bytes) magic (sym other))
+        | inr other ↦ no_magic found bytes long (other_text (take 8 bytes) magic (sym other))
         | inl same ↦
             let left : List ℕ = drop 8 bytes in
             let parts : bytes ≡ magic ++ left = sym (take-append-drop 8 bytes) ∙ ap (λ (x : List ℕ). x ++ left) (same_text (take 8 bytes) magic (sym same)) in
-            let reads = reads_from (length left) frame_limit (start journal) left (omega arith) (AreBytes-drop 8 bytes fits) (start_has journal) in
-            behind_magic journal bytes left reads.frames reads.answers reads.last parts reads.formed reads.steps reads.stops
+            let reads = reads_from (length left) frame_limit (start true found) left (omega arith) (AreBytes-drop 8 bytes fits) refl (start_has found) in
+            behind_magic found bytes left reads.frames reads.answers reads.last parts reads.formed reads.steps reads.stops
       ]
     ]
 

@@ -1,22 +1,27 @@
 -- How a run goes on by one frame.
---   going_at_first, going_on      the frames so far were handled, and the sink has their answers
+--   going_at_first, going_on      the frames so far were handled, the sink has their answers, and what a crash left is known
 --   so_far, given_so_far          what the source had so far, and what the sink was given
-use Rattle.std.proofs.Common.{◌≡◌, ◌+◌, ◌*◌, ◌≤◌, ℕ, Option, List, [], ◌∷◌, ◌++◌, length, refl, sym, ap, subst, ◌∙◌, append_assoc, arith}
+use Rattle.std.proofs.Common.{◌≡◌, ◌+◌, ◌⊎◌, inl, inr, ⊎_elim, ℕ, Bool, true, Option, Some, List, [], ◌∷◌, ◌++◌, length, refl, sym, ap, subst, ◌∙◌, append_assoc, arith}
 use Rattle.std.specs.List.{AllByRecursion}
 use Rattle.std.proofs.lemmas.List.{append-nil, length-append}
 use Rattle.std.proofs.lemmas.Grind.{flat_map-append}
-use Rattle.sky_journal.specs.Journal.{JournalView}
+use Rattle.sky_outside.specs.CloudMap.{CloudMap}
+use Rattle.sky_outside.specs.Moments.{LeavesOnly, OfPair}
 use Rattle.sky_outside.specs.Told.{Had, Given}
 use Rattle.sky_outside.specs.declared.storage.Storage.{Ghosts}
+use Rattle.sky_outside.proofs.MomentLaws.{LeavesOnly-then}
 use Rattle.sky_outside.proofs.ToldLaws.{Had-then, Had-none, Given-then, Given-none}
+use Rattle.sky_recover.specs.Opening.{Found, WhereBothTold}
 use Rattle.sky_script.specs.Frame.{InFrame, OutFrame, IsInFrame, in_frame, in_frames, out_frame, out_frames, magic}
-use Rattle.sky_script.proofs.FrameLaws.{in_frame_bound}
-use Rattle.sky_world.specs.Disk.{WentOn}
-use Rattle.sky_world.specs.Meaning.{State, Kept, Scarce, start, opening, Step, Steps}
-use Rattle.sky_world.specs.World.{WorldView, Stands, Stepped}
-use Rattle.sky_world.proofs.DiskLaws.{Extends, extends_same, extends_then, went_nowhere, went_then}
-use Rattle.sky_world.proofs.GoesLaws.{step_extends}
-use Rattle.bluesky.specs.Run.{Handled, recording, session_bytes}
+use Rattle.sky_sound.specs.Recovery.{FindsSame}
+use Rattle.sky_world.specs.Finding.{FindsPrefix, floor_of, reached}
+use Rattle.sky_world.specs.Meaning.{State, Scarce, start, opening, Step, Steps}
+use Rattle.sky_world.specs.World.{WorldView, Stands, Stepped, tells}
+use Rattle.sky_world.proofs.FindingLaws.{both_told_at, both_told_from}
+use Rattle.sky_world.proofs.SiteLaws.{step_tells}
+use Rattle.bluesky.specs.Run.{Handled, LeftBetween, area_size, recording, session_bytes, volume}
+use Rattle.bluesky.specs.Stop.{Opened}
+use Rattle.bluesky.proofs.Sites.{told_both, tells_both, opened_leaves}
 
 -- steps, and one more
 steps_then : (s : State) (fs : List InFrame) (answers : List OutFrame) (m : State) (f : InFrame) (outs : List OutFrame) (n : State) → Steps Scarce s fs answers m → Step Scarce m f outs n → Steps Scarce s (fs ++ f ∷ []) (answers ++ outs) n
@@ -32,16 +37,16 @@ formed_then : (fs : List InFrame) (f : InFrame) → AllByRecursion IsInFrame fs 
 formed_then [] f all formed = (formed, tt)
 formed_then (g ∷ fs) f all formed = (all.0, formed_then fs f all.1 formed)
 
-handled_then : (journal : JournalView) (fs : List InFrame) (answers : List OutFrame) (m : State) (f : InFrame) (outs : List OutFrame) (n : State)
-    → Handled Scarce journal fs answers m → IsInFrame f → Step Scarce m f outs n → Handled Scarce journal (fs ++ f ∷ []) (answers ++ outs) n
-handled_then journal fs answers m f outs n handled formed step = record {
+handled_then : (first : State) (fs : List InFrame) (answers : List OutFrame) (m : State) (f : InFrame) (outs : List OutFrame) (n : State)
+    → Handled Scarce first fs answers m → IsInFrame f → Step Scarce m f outs n → Handled Scarce first (fs ++ f ∷ []) (answers ++ outs) n
+handled_then first fs answers m f outs n handled formed step = record {
   formed = formed_then fs f handled.formed formed;
-  steps = steps_then (start journal) fs answers m f outs n handled.steps step;
+  steps = steps_then first fs answers m f outs n handled.steps step;
 }
 
 -- nothing was handled
-pub nothing_handled : (journal : JournalView) → Handled Scarce journal [] [] (start journal)
-nothing_handled journal = record { formed = tt; steps = (refl, refl) }
+pub nothing_handled : (first : State) → Handled Scarce first [] [] first
+nothing_handled first = record { formed = tt; steps = (refl, refl) }
 
 -- ---- bytes
 
@@ -49,75 +54,139 @@ in_frames_then : (fs : List InFrame) (f : InFrame) → in_frames (fs ++ f ∷ []
 in_frames_then fs f = flat_map-append in_frame fs (f ∷ []) ∙ ap (λ (x : List ℕ). in_frames fs ++ x) (append-nil (in_frame f))
 
 -- the bytes of a session's answers go on by those of more answers
-pub session_then : (xs ys : List OutFrame) → session_bytes xs ++ out_frames ys ≡ session_bytes (xs ++ ys)
-session_then xs ys =
-    append_assoc magic (out_frames (opening ∷ xs)) (out_frames ys) ∙ ap (λ (x : List ℕ). magic ++ x) (sym (flat_map-append out_frame (opening ∷ xs) ys))
+pub session_then : (found : Found) (xs ys : List OutFrame) → session_bytes found xs ++ out_frames ys ≡ session_bytes found (xs ++ ys)
+session_then found xs ys =
+    append_assoc magic (out_frames (opening found ∷ xs)) (out_frames ys) ∙ ap (λ (x : List ℕ). magic ++ x) (sym (flat_map-append out_frame (opening found ∷ xs) ys))
 
 -- magic and opening are the bytes of a session without answers
-pub session-nothing : magic ++ out_frame opening ≡ session_bytes []
-session-nothing = ap (λ (x : List ℕ). magic ++ x) (sym (append-nil (out_frame opening)))
+pub session-nothing : (found : Found) → magic ++ out_frame (opening found) ≡ session_bytes found []
+session-nothing found = ap (λ (x : List ℕ). magic ++ x) (sym (append-nil (out_frame (opening found))))
+
+-- ---- what a crash left so far
+
+-- after a crash recovery finds the same as on a site from before, or what a crash leaves within one of the steps
+abbrev pub LeftSoFar : List ℕ → CloudMap → State → List InFrame → OfPair
+LeftSoFar read held first frames image objects = FindsSame volume area_size read held image objects ⊎ LeftBetween first frames image objects
+
+-- at any moment from s to t it does
+abbrev pub LeavesSoFar : {S : Type 0} → Ghosts S → S → S → State → List InFrame → Type 0
+LeavesSoFar g s t first frames = WhereBothTold g s (λ read held. LeavesOnly g s t (LeftSoFar read held first frames))
+
+-- a step of some frames is one of these and another
+between_more : (first : State) (frames : List InFrame) (f : InFrame) (image : List ℕ) (objects : CloudMap) → LeftBetween first frames image objects → LeftBetween first (frames ++ f ∷ []) image objects
+between_more first frames f image objects b = record {
+  before = b.before;
+  f = b.f;
+  behind = b.behind ++ f ∷ [];
+  parts = ap (λ (x : List InFrame). x ++ f ∷ []) b.parts ∙ append_assoc b.before (b.f ∷ b.behind) (f ∷ []);
+  answers = b.answers;
+  old = b.old;
+  handled = b.handled;
+  outs = b.outs;
+  new = b.new;
+  step = b.step;
+  left = b.left;
+}
+
+-- and so is the last
+between_last : (first : State) (frames : List InFrame) (answers : List OutFrame) (old : State) (f : InFrame) (outs : List OutFrame) (new : State) (image : List ℕ) (objects : CloudMap)
+    → Steps Scarce first frames answers old → Step Scarce old f outs new → FindsPrefix (floor_of f old) (reached f old new) image objects → LeftBetween first (frames ++ f ∷ []) image objects
+between_last first frames answers old f outs new image objects handled step left = record {
+  before = frames;
+  f = f;
+  behind = [];
+  parts = refl;
+  answers = answers;
+  old = old;
+  handled = handled;
+  outs = outs;
+  new = new;
+  step = step;
+  left = left;
+}
 
 -- ---- so far
 
--- what is kept at the start over a journal
-abbrev pub kept_first : JournalView → Kept
-kept_first journal = (start journal).kept
-
 -- How far a run has come since it began to read frames: where the site, the source and the sink were then and are now, at which place
--- of the recording, behind how many frames; that the world stands for the state to which they lead; and what a crash left since.
-pub record Going {S : Type 0} (g : Ghosts S) (journal : JournalView) (world : WorldView) (s0 s1 : S) (left_then left given_then given : Option (List ℕ)) (place count : ℕ) : Type 0 where
+-- of the recording, behind how many frames; that the world stands for the state to which they lead; and what a crash left since the opening.
+pub record Going {S : Type 0} (g : Ghosts S) (told : Bool) (found : Found) (world : WorldView) (s0 s1 : S) (left_then left given_then given : Option (List ℕ)) (place count : ℕ) : Type 0 where
   pub frames : List InFrame
   pub answers : List OutFrame
   pub state : State
   pub stands : Stands g world s1 state
-  pub handled : Handled Scarce journal frames answers state
-  pub extends : Extends (kept_first journal) state.kept
-  pub went : WentOn g s0 s1 0 state.kept
+  pub handled : Handled Scarce (start told found) frames answers state
+  pub told_then : told ≡ tells g s0
+  pub told_now : state.told ≡ told
+  pub leaves : (s : S) → Opened g s s0 found → LeavesSoFar g s s1 (start told found) frames
   pub read : Had left_then left (in_frames frames)
   pub written : Given given_then given (out_frames answers)
   pub count_is : length frames ≡ count
   pub place_is : place ≡ 8 + length (in_frames frames)
-  pub bounded : place ≤ 8 + count * 1048585
 
 -- at its beginning
-pub going_at_first : {S : Type 0} (g : Ghosts S) (journal : JournalView) (world : WorldView) (s : S) (left given : Option (List ℕ)) → Stands g world s (start journal)
-    → Going g journal world s s left left given given 8 0
-going_at_first g journal world s left given stands = record {
+pub going_at_first : {S : Type 0} (g : Ghosts S) (told : Bool) (found : Found) (world : WorldView) (s : S) (left given : Option (List ℕ)) → Stands g world s (start told found)
+    → Going g told found world s s left left given given 8 0
+going_at_first g told found world s left given stands = record {
   frames = [];
   answers = [];
-  state = start journal;
+  state = start told found;
   stands = stands;
-  handled = nothing_handled journal;
-  extends = extends_same (kept_first journal);
-  went = went_nowhere g (kept_first journal) s stands.service.kept;
+  handled = nothing_handled (start told found);
+  told_then = stands.recoverable.told;
+  told_now = refl;
+  leaves = λ s' opened. opened_leaves g s' s found (λ read held. LeftSoFar read held (start told found) []) opened (λ read held image objects p. inl p);
   read = Had-none left;
   written = Given-none given;
   count_is = refl;
   place_is = refl;
-  bounded = omega arith;
 }
 
--- behind one frame more
-pub going_on : {S : Type 0} (g : Ghosts S) (journal : JournalView) (old new : WorldView) (s0 s1 s2 : S) (l0 l1 l2 g0 g1 g2 : Option (List ℕ)) (place count len : ℕ) (f : InFrame)
-    → Going g journal old s0 s1 l0 l1 g0 g1 place count → IsInFrame f → len ≡ length (in_frame f) → Had l1 l2 (in_frame f)
-    → Stepped g old s1 f new s2 (record { before = g1; after = g2 }) → Going g journal new s0 s2 l0 l2 g0 g2 (place + len) (count + 1)
-going_on g journal old new s0 s1 s2 l0 l1 l2 g0 g1 g2 place count len f going formed long had goes =
-    let went = goes going.state going.stands in
-    let more : Extends going.state.kept went.1.kept = step_extends Scarce going.state went.1 f went.0 went.2 in
-    record {
-      frames = going.frames ++ f ∷ [];
-      answers = going.answers ++ went.0;
-      state = went.1;
-      stands = went.3;
-      handled = handled_then journal going.frames going.answers going.state f went.0 went.1 going.handled formed went.2;
-      extends = extends_then (kept_first journal) going.state.kept went.1.kept going.extends more;
-      went = went_then g s0 s1 s2 0 going.state.kept.mark going.state.kept went.1.kept (omega arith) more going.went went.5;
-      read = subst (λ (x : List ℕ). Had l0 l2 x) (sym (in_frames_then going.frames f)) (Had-then l0 l1 l2 (in_frames going.frames) (in_frame f) going.read had);
-      written = subst (λ (x : List ℕ). Given g0 g2 x) (sym (flat_map-append out_frame going.answers went.0)) (Given-then g0 g1 g2 (out_frames going.answers) (out_frames went.0) going.written went.4);
-      count_is = omega (arith, length-append going.frames (f ∷ []), going.count_is);
-      place_is = omega (arith, ap length (in_frames_then going.frames f), length-append (in_frames going.frames) (in_frame f), going.place_is, long);
-      bounded = omega (arith, (in_frame_bound f formed).1, going.bounded, long);
-    }
+module _ {S : Type 0} (g : Ghosts S) (told : Bool) (found : Found) (world : WorldView) (s0 s1 : S) (l0 l1 g0 g1 : Option (List ℕ)) (place count : ℕ) (going : Going g told found world s0 s1 l0 l1 g0 g1 place count) where
+  -- what the site told before the opening it tells now
+  pub tells_now : (s : S) → Opened g s s0 found → (read : List ℕ) (held : CloudMap) → g.image s ≡ Some read → g.objects s ≡ Some held → tells g s1 ≡ true
+  tells_now s opened read held is held_is =
+      sym going.stands.recoverable.told ∙ going.told_now ∙ going.told_then ∙ opened.tells ∙ tells_both g s read held is held_is
+
+  -- of what a crash leaves from now on, where it told before the opening
+  pub at_now : (s : S) → Opened g s s0 found → (read : List ℕ) (held : CloudMap) → g.image s ≡ Some read → g.objects s ≡ Some held → (P : Type 0) → WhereBothTold g s1 (λ image objects. P) → P
+  at_now s opened read held is held_is P holds =
+      let both = told_both g s1 (tells_now s opened read held is held_is) in
+      both_told_at g s1 (λ image objects. P) both.0 both.1 both.2 both.3 holds
+
+  -- over one frame more
+  leaves_on : (s2 : S) (f : InFrame) (outs : List OutFrame) (next : State) → Step Scarce going.state f outs next
+      → WhereBothTold g s1 (λ image objects. LeavesOnly g s1 s2 (FindsPrefix (floor_of f going.state) (reached f going.state next)))
+      → (s : S) → Opened g s s0 found → LeavesSoFar g s s2 (start told found) (going.frames ++ f ∷ [])
+  leaves_on s2 f outs next step leaves s opened =
+      let first : State = start told found in
+      let within : OfPair = FindsPrefix (floor_of f going.state) (reached f going.state next) in
+      both_told_from g s (λ read held. LeavesOnly g s s2 (LeftSoFar read held first (going.frames ++ f ∷ [])))
+      (λ read held is held_is.
+      let so_far = both_told_at g s (λ r h. LeavesOnly g s s1 (LeftSoFar r h first going.frames)) read held is held_is (going.leaves s opened) in
+      let now = at_now s opened read held is held_is (LeavesOnly g s1 s2 within) leaves in
+      LeavesOnly-then g s s1 s2 (LeftSoFar read held first going.frames) within (LeftSoFar read held first (going.frames ++ f ∷ [])) so_far now
+      (λ image objects p. ⊎_elim inl (λ b. inr (between_more first going.frames f image objects b)) p)
+      (λ image objects p. inr (between_last first going.frames going.answers going.state f outs next image objects going.handled.steps step p)))
+
+  -- behind one frame more
+  pub going_on : (new : WorldView) (s2 : S) (l2 g2 : Option (List ℕ)) (len : ℕ) (f : InFrame) → IsInFrame f → len ≡ length (in_frame f) → Had l1 l2 (in_frame f)
+      → Stepped g world s1 f new s2 (record { before = g1; after = g2 }) → Going g told found new s0 s2 l0 l2 g0 g2 (place + len) (count + 1)
+  going_on new s2 l2 g2 len f formed long had goes =
+      let went = goes going.state going.stands in
+      record {
+        frames = going.frames ++ f ∷ [];
+        answers = going.answers ++ went.0;
+        state = went.1;
+        stands = went.3;
+        handled = handled_then (start told found) going.frames going.answers going.state f went.0 went.1 going.handled formed went.2;
+        told_then = going.told_then;
+        told_now = step_tells Scarce going.state went.1 f went.0 went.2 ∙ going.told_now;
+        leaves = leaves_on s2 f went.0 went.1 went.2 went.5;
+        read = subst (λ (x : List ℕ). Had l0 l2 x) (sym (in_frames_then going.frames f)) (Had-then l0 l1 l2 (in_frames going.frames) (in_frame f) going.read had);
+        written = subst (λ (x : List ℕ). Given g0 g2 x) (sym (flat_map-append out_frame going.answers went.0)) (Given-then g0 g1 g2 (out_frames going.answers) (out_frames went.0) going.written went.4);
+        count_is = omega (arith, length-append going.frames (f ∷ []), going.count_is);
+        place_is = omega (arith, ap length (in_frames_then going.frames f), length-append (in_frames going.frames) (in_frame f), going.place_is, long);
+      }
 
 -- what the source had so far
 pub so_far : (had l0 l1 : Option (List ℕ)) (frames : List InFrame) → Had had l0 magic → Had l0 l1 (in_frames frames) → Had had l1 (recording frames [])
@@ -131,7 +200,7 @@ so_far_then had l0 l1 l2 frames next begun read more =
     Had-then had l1 l2 (magic ++ in_frames frames) next (Had-then had l0 l1 magic (in_frames frames) begun read) more
 
 -- what the sink was given so far
-pub given_so_far : (before g0 g1 : Option (List ℕ)) (answers : List OutFrame) → Given before g0 (session_bytes []) → Given g0 g1 (out_frames answers)
-    → Given before g1 (session_bytes answers)
-given_so_far before g0 g1 answers opened written =
-    subst (λ (x : List ℕ). Given before g1 x) (session_then [] answers) (Given-then before g0 g1 (session_bytes []) (out_frames answers) opened written)
+pub given_so_far : (found : Found) (before g0 g1 : Option (List ℕ)) (answers : List OutFrame) → Given before g0 (session_bytes found []) → Given g0 g1 (out_frames answers)
+    → Given before g1 (session_bytes found answers)
+given_so_far found before g0 g1 answers opened written =
+    subst (λ (x : List ℕ). Given before g1 x) (session_then found [] answers) (Given-then before g0 g1 (session_bytes found []) (out_frames answers) opened written)

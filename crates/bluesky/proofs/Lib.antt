@@ -2,6 +2,7 @@ mod Endings
 mod Comparing
 mod OneReading
 pub mod Existing
+mod Sites
 mod Going
 mod Leaving
 mod Stopping

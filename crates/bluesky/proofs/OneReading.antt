@@ -1,21 +1,23 @@
 -- A recording has one reading, and the status of a run is that of the reading.
-use Rattle.std.proofs.Common.{◌≡◌, ◌⊎◌, ⊎_elim, ◌+◌, ◌<◌, ◌≤◌, ◌≢◌, inl, inr, ℕ, Option, Some, None, List, [], ◌∷◌, ◌++◌, length, refl, sym, ap, subst, ◌∙◌, append_assoc, arith}
+use Rattle.std.proofs.Common.{◌≡◌, ◌⊎◌, true, ⊎_elim, ◌+◌, ◌<◌, ◌≤◌, ◌≢◌, inl, inr, ℕ, Option, Some, None, List, [], ◌∷◌, ◌++◌, length, refl, sym, ap, subst, ◌∙◌, append_assoc, arith}
 use Rattle.std.proofs.lemmas.List.{append_cancel_left, append-nil, length-append}
 use Rattle.sky_base.specs.declared.status.Status.{Status}
 use Rattle.sky_base.specs.declared.status.Status.TheVariants.{Done, Words, Malformed, Early, SourceFault, SinkFault, JournalFault, CloudFault, Memory, Foreign, Missing, Damaged, Worn, Long, Settings}
-use Rattle.sky_journal.specs.Journal.{JournalView}
+use Rattle.std.specs.List.{AllByRecursion}
 use Rattle.sky_outside.specs.Count.{Rose}
 use Rattle.sky_outside.specs.Told.{WhereTold}
 use Rattle.sky_outside.specs.declared.storage.Storage.{Ghosts}
-use Rattle.sky_script.specs.Frame.{InFrame, OutFrame, End, in_frame, in_frames, magic}
+use Rattle.sky_recover.specs.Opening.{Found}
+use Rattle.sky_script.specs.Frame.{InFrame, Begin, Bytes, Close, SetMoment, Stat, Restart, RestartWithoutJournal, End, OutFrame, in_frame, in_frames, magic}
 use Rattle.sky_script.specs.Beginning.{IsRefused, IsCutShort}
 use Rattle.sky_script.proofs.FrameLaws.{prefixes_same}
 use Rattle.sky_script.proofs.Beginnings.{frame_not_refused, frame_not_cut, refused_not_cut, refused_same}
-use Rattle.sky_world.specs.Laws.{NoneOutOfMemory}
+use Rattle.sky_world.specs.Laws.{IsForeseen, NoneOutOfMemory}
 use Rattle.sky_world.specs.Meaning.{State, Memory as Supply, Ample, Scarce, start, Steps}
+use Rattle.sky_world.specs.World.{tells}
 use Rattle.sky_world.proofs.FrameLaws.{frames_one}
 use Rattle.sky_world.proofs.HistoryLaws.{steps_told}
-use Rattle.bluesky.specs.Run.{frame_limit, Handled, recording, SourceUse, Took, TookRefused, other_magic, no_frame, TookPart, within_magic, within_frame, AreFew, ReadTo, SinkUse, Ran, IsReading, IsFree, IsExact, IsReplayed, journal_on}
+use Rattle.bluesky.specs.Run.{frame_limit, Handled, recording, SourceUse, Took, TookRefused, other_magic, no_frame, TookPart, within_magic, within_frame, AreFew, ReadTo, SinkUse, GaveUnopened, Ran, RanOn, IsReading, IsFree, IsExact, IsOfDamage, IsReplayed}
 use Rattle.bluesky.proofs.Comparing.{GoesOn, Compares, are_one, first_on, second_on, compared, end_not_on, refused_not_on, cut_not_on}
 
 -- ---- the bytes of a recording
@@ -141,14 +143,14 @@ same_behind fs gs l m r q a b (are_one is) x y =
 same_behind fs gs l m r q a b (first_on less on) x y = absurd (stop_not_on gs m q b (omega (arith, less, at_most fs l r a x)) y on)
 same_behind fs gs l m r q a b (second_on less on) x y = absurd (stop_not_on fs l r a (omega (arith, less, at_most gs m q b y)) x on)
 
-module _ (mem supply : Supply) (journal other : JournalView) (bytes : List ℕ) (fs gs : List InFrame) (os ps : List OutFrame) (s t : State) (a b : Status) (r q : List ℕ) where
+module _ (mem supply : Supply) (first begun : State) (bytes : List ℕ) (fs gs : List InFrame) (os ps : List OutFrame) (s t : State) (a b : Status) (r q : List ℕ) where
   -- two readings behind the magic, side by side
-  side_by_side : (l m : List ℕ) → Handled mem journal fs os s → Handled supply other gs ps t → bytes ≡ magic ++ (in_frames fs ++ l) → bytes ≡ magic ++ (in_frames gs ++ m) → Compares fs gs l m
+  side_by_side : (l m : List ℕ) → Handled mem first fs os s → Handled supply begun gs ps t → bytes ≡ magic ++ (in_frames fs ++ l) → bytes ≡ magic ++ (in_frames gs ++ m) → Compares fs gs l m
   side_by_side l m h k e d =
-      compared mem supply (start journal) (start other) fs gs os ps s t l m h.formed k.formed h.steps k.steps (append_cancel_left magic (in_frames fs ++ l) (in_frames gs ++ m) (sym e ∙ d))
+      compared mem supply first begun fs gs os ps s t l m h.formed k.formed h.steps k.steps (append_cancel_left magic (in_frames fs ++ l) (in_frames gs ++ m) (sym e ∙ d))
 
   -- those of a whole recording
-  same_in : Handled mem journal fs os s → Handled supply other gs ps t → StopsIn bytes fs r a → StopsIn bytes gs q b → AreSame fs gs a b r q
+  same_in : Handled mem first fs os s → Handled supply begun gs ps t → StopsIn bytes fs r a → StopsIn bytes gs q b → AreSame fs gs a b r q
   same_in h k (in_magic short none empty is) (in_magic short' none' empty' is') =
       record { frames = none ∙ sym none'; status = is ∙ sym is'; rest = empty ∙ sym empty' }
   same_in h k (in_magic short none empty is) (no_magic taken long other parts none' is') =
@@ -165,87 +167,122 @@ module _ (mem supply : Supply) (journal other : JournalView) (bytes : List ℕ) 
   same_in h k (behind l e x) (behind m d y) = same_behind fs gs l m r q a b (side_by_side l m h k e d) x y
 
   -- two readings of one list of bytes are of the same frames
-  readings_same : IsReading mem journal bytes fs os s a r → IsReading supply other bytes gs ps t b q → AreSame fs gs a b r q
+  readings_same : IsReading mem first bytes fs os s a r → IsReading supply begun bytes gs ps t b q → AreSame fs gs a b r q
   readings_same x y = same_in x.handled y.handled (stops_in a bytes fs r x.read) (stops_in b bytes gs q y.read)
 
--- the same frames, with memory for every call, have the same answers
-answers_same : (journal : JournalView) (fs gs : List InFrame) (os ps : List OutFrame) (s t : State) → fs ≡ gs → Handled Ample journal fs os s → Handled Ample journal gs ps t → (os ≡ ps) × (s ≡ t)
-answers_same journal fs gs os ps s t same h k =
-    frames_one (start journal) fs os ps s t h.steps (subst (λ (x : List InFrame). Steps Ample (start journal) x ps t) (sym same) k.steps)
+-- on a site that tells what it has, it is known beforehand what each frame leads to
+seen_all : (frames : List InFrame) → AllByRecursion (IsForeseen true) frames
+seen_all [] = tt
+seen_all (Begin session ∷ frames) = (tt, seen_all frames)
+seen_all (Bytes session payload ∷ frames) = (tt, seen_all frames)
+seen_all (Close session ∷ frames) = (tt, seen_all frames)
+seen_all (SetMoment at ∷ frames) = (tt, seen_all frames)
+seen_all (Stat ∷ frames) = (tt, seen_all frames)
+seen_all (Restart ∷ frames) = (refl, seen_all frames)
+seen_all (RestartWithoutJournal ∷ frames) = (refl, seen_all frames)
+seen_all (End ∷ frames) = (tt, seen_all frames)
 
--- how much memory there is, and what the journal is, does not matter to the frames
-pub any_reading : (bytes : List ℕ) (mem supply : Supply) (journal other : JournalView) (fs gs : List InFrame) (os ps : List OutFrame) (s t : State) (a b : Status) (r q : List ℕ)
-    → IsReading mem journal bytes fs os s a r → IsReading supply other bytes gs ps t b q → (fs ≡ gs) × (a ≡ b) × (r ≡ q)
-any_reading bytes mem supply journal other fs gs os ps s t a b r q x y =
-    let is = readings_same mem supply journal other bytes fs gs os ps s t a b r q x y in
+-- the same frames, with memory for every call, have the same answers
+answers_same : (found : Found) (fs gs : List InFrame) (os ps : List OutFrame) (s t : State) → fs ≡ gs → Handled Ample (start true found) fs os s → Handled Ample (start true found) gs ps t → (os ≡ ps) × (s ≡ t)
+answers_same found fs gs os ps s t same h k =
+    frames_one true (start true found) fs os ps s t refl (seen_all fs) h.steps (subst (λ (x : List InFrame). Steps Ample (start true found) x ps t) (sym same) k.steps)
+
+-- how much memory there is, and from which state on, does not matter to the frames
+pub any_reading : (bytes : List ℕ) (mem supply : Supply) (first begun : State) (fs gs : List InFrame) (os ps : List OutFrame) (s t : State) (a b : Status) (r q : List ℕ)
+    → IsReading mem first bytes fs os s a r → IsReading supply begun bytes gs ps t b q → (fs ≡ gs) × (a ≡ b) × (r ≡ q)
+any_reading bytes mem supply first begun fs gs os ps s t a b r q x y =
+    let is = readings_same mem supply first begun bytes fs gs os ps s t a b r q x y in
     (is.frames, is.status, is.rest)
 
 -- no two readings of a recording differ, where there is memory for every call
-pub one_reading : (bytes : List ℕ) (journal : JournalView) (fs gs : List InFrame) (os ps : List OutFrame) (s t : State) (a b : Status) (r q : List ℕ)
-    → IsReading Ample journal bytes fs os s a r → IsReading Ample journal bytes gs ps t b q → (fs ≡ gs) × (os ≡ ps) × (s ≡ t) × (a ≡ b) × (r ≡ q)
-one_reading bytes journal fs gs os ps s t a b r q x y =
-    let is = readings_same Ample Ample journal journal bytes fs gs os ps s t a b r q x y in
-    let answers = answers_same journal fs gs os ps s t is.frames x.handled y.handled in
+pub one_reading : (bytes : List ℕ) (found : Found) (fs gs : List InFrame) (os ps : List OutFrame) (s t : State) (a b : Status) (r q : List ℕ)
+    → IsReading Ample (start true found) bytes fs os s a r → IsReading Ample (start true found) bytes gs ps t b q → (fs ≡ gs) × (os ≡ ps) × (s ≡ t) × (a ≡ b) × (r ≡ q)
+one_reading bytes found fs gs os ps s t a b r q x y =
+    let is = readings_same Ample Ample (start true found) (start true found) bytes fs gs os ps s t a b r q x y in
+    let answers = answers_same found fs gs os ps s t is.frames x.handled y.handled in
     (is.frames, answers.0, answers.1, is.status, is.rest)
 
 -- a reading whose answers don't tell a want of memory is one with memory for every call
-pub told_reading : (bytes : List ℕ) (journal : JournalView) (fs : List InFrame) (os : List OutFrame) (s : State) (a : Status) (r : List ℕ) → IsReading Scarce journal bytes fs os s a r → NoneOutOfMemory os → IsReading Ample journal bytes fs os s a r
-told_reading bytes journal fs os s a r x none = record { handled = record { formed = x.handled.formed; steps = steps_told (start journal) fs os s x.handled.steps none }; read = x.read }
+pub told_reading : (bytes : List ℕ) (found : Found) (fs : List InFrame) (os : List OutFrame) (s : State) (a : Status) (r : List ℕ) → IsReading Scarce (start true found) bytes fs os s a r → NoneOutOfMemory os → IsReading Ample (start true found) bytes fs os s a r
+told_reading bytes found fs os s a r x none = record { handled = record { formed = x.handled.formed; steps = steps_told (start true found) fs os s x.handled.steps none }; read = x.read }
 
 -- ---- the status of a run
 
 -- the status of a reading is that of each reading
-exact_reading : (status : Status) (journal : JournalView) (bytes : List ℕ) (frames : List InFrame) (answers : List OutFrame) (last : State) (rest : List ℕ)
-    → IsReading Scarce journal bytes frames answers last status rest → IsExact status bytes
-exact_reading status journal bytes frames answers last rest reading supply over gs ps t expected q other =
-    inl (readings_same Scarce supply journal over bytes frames gs answers ps last t status expected rest q reading other).status
+exact_reading : (status : Status) (first : State) (bytes : List ℕ) (frames : List InFrame) (answers : List OutFrame) (last : State) (rest : List ℕ)
+    → IsReading Scarce first bytes frames answers last status rest → IsExact status bytes
+exact_reading status first bytes frames answers last rest reading supply over gs ps t expected q other =
+    inl (readings_same Scarce supply first over bytes frames gs answers ps last t status expected rest q reading other).status
 
 -- a source that was read to where the bytes say that it stops
-read_exact : (status : Status) (journal : JournalView) (bytes : List ℕ) (left : Option (List ℕ)) (frames : List InFrame) (answers : List OutFrame) (last : State) → Handled Scarce journal frames answers last
+read_exact : (status : Status) (first : State) (bytes : List ℕ) (left : Option (List ℕ)) (frames : List InFrame) (answers : List OutFrame) (last : State) → Handled Scarce first frames answers last
     → ReadTo status (record { had = Some bytes; left = left }) frames → IsExact status bytes
-read_exact status journal bytes (Some rest) frames answers last handled read = exact_reading status journal bytes frames answers last rest (record { handled = handled; read = read })
-read_exact Done journal bytes None frames answers last handled read = absurd (let took = read.1 in cc)
-read_exact (Malformed at) journal bytes None frames answers last handled (few, other_magic taken none zero long other took) = absurd cc
-read_exact (Malformed at) journal bytes None frames answers last handled (few, no_frame taken place refused took) = absurd cc
-read_exact Early journal bytes None frames answers last handled (few, within_magic taken none short took, empty) = absurd cc
-read_exact Early journal bytes None frames answers last handled (few, within_frame taken cut took, empty) = absurd cc
-read_exact Long journal bytes None frames answers last handled read = absurd (let took = read.1 in cc)
-read_exact Words journal bytes None frames answers last handled read = absurd read
-read_exact SourceFault journal bytes None frames answers last handled read = absurd read
-read_exact SinkFault journal bytes None frames answers last handled read = absurd read
-read_exact JournalFault journal bytes None frames answers last handled read = absurd read
-read_exact (Foreign at) journal bytes None frames answers last handled read = absurd read
-read_exact Memory journal bytes None frames answers last handled read = absurd read
-read_exact Settings journal bytes None frames answers last handled read = absurd read
-read_exact CloudFault journal bytes None frames answers last handled read = absurd read
-read_exact (Missing name) journal bytes None frames answers last handled read = absurd read
-read_exact (Damaged name damage) journal bytes None frames answers last handled read = absurd read
-read_exact Worn journal bytes None frames answers last handled read = absurd read
+read_exact status first bytes (Some rest) frames answers last handled read = exact_reading status first bytes frames answers last rest (record { handled = handled; read = read })
+read_exact Done first bytes None frames answers last handled read = absurd (let took = read.1 in cc)
+read_exact (Malformed at) first bytes None frames answers last handled (few, other_magic taken none zero long other took) = absurd cc
+read_exact (Malformed at) first bytes None frames answers last handled (few, no_frame taken place refused took) = absurd cc
+read_exact Early first bytes None frames answers last handled (few, within_magic taken none short took, empty) = absurd cc
+read_exact Early first bytes None frames answers last handled (few, within_frame taken cut took, empty) = absurd cc
+read_exact Long first bytes None frames answers last handled read = absurd (let took = read.1 in cc)
+read_exact Words first bytes None frames answers last handled read = absurd read
+read_exact SourceFault first bytes None frames answers last handled read = absurd read
+read_exact SinkFault first bytes None frames answers last handled read = absurd read
+read_exact JournalFault first bytes None frames answers last handled read = absurd read
+read_exact (Foreign at) first bytes None frames answers last handled read = absurd read
+read_exact Memory first bytes None frames answers last handled read = absurd read
+read_exact Settings first bytes None frames answers last handled read = absurd read
+read_exact CloudFault first bytes None frames answers last handled read = absurd read
+read_exact (Missing name) first bytes None frames answers last handled read = absurd read
+read_exact (Damaged name damage) first bytes None frames answers last handled read = absurd read
+read_exact Worn first bytes None frames answers last handled read = absurd read
 
 -- a status that blames a device, the memory, or what was on the disk is never wrong
 exact_free : (status : Status) (bytes : List ℕ) → IsFree status → IsExact status bytes
-exact_free status bytes free supply journal frames answers last expected rest reading = inr free
+exact_free status bytes free supply begun frames answers last expected rest reading = inr free
+
+-- the status of a run that opened its site is exact
+opened_exact : {S : Type 0} (g : Ghosts S) (from to : S) (status : Status) (bytes : List ℕ) (left : Option (List ℕ)) (sink : SinkUse) → RanOn g from to status (record { had = Some bytes; left = left }) sink → IsExact status bytes
+opened_exact g from to Done bytes left sink ran = read_exact Done (start (tells g from) ran.found) bytes left ran.frames ran.answers ran.last ran.handled ran.ends.0
+opened_exact g from to (Malformed at) bytes left sink ran =
+    read_exact (Malformed at) (start (tells g from) ran.found) bytes left ran.frames ran.answers ran.last ran.handled ran.ends.0
+opened_exact g from to Early bytes left sink ran = read_exact Early (start (tells g from) ran.found) bytes left ran.frames ran.answers ran.last ran.handled ran.ends.0
+opened_exact g from to Long bytes left sink ran = read_exact Long (start (tells g from) ran.found) bytes left ran.frames ran.answers ran.last ran.handled ran.ends.0
+opened_exact g from to SourceFault bytes left sink ran = exact_free SourceFault bytes tt
+opened_exact g from to SinkFault bytes left sink ran = exact_free SinkFault bytes tt
+opened_exact g from to JournalFault bytes left sink ran = exact_free JournalFault bytes tt
+opened_exact g from to CloudFault bytes left sink ran = exact_free CloudFault bytes tt
+opened_exact g from to Memory bytes left sink ran = exact_free Memory bytes tt
+opened_exact g from to (Foreign at) bytes left sink ran = exact_free (Foreign at) bytes tt
+opened_exact g from to (Missing name) bytes left sink ran = exact_free (Missing name) bytes tt
+opened_exact g from to (Damaged name damage) bytes left sink ran = exact_free (Damaged name damage) bytes tt
+opened_exact g from to Worn bytes left sink ran = exact_free Worn bytes tt
+opened_exact g from to Words bytes left sink ran = absurd ran.ends
+opened_exact g from to Settings bytes left sink ran = absurd ran.ends
+
+-- and so is that of one that did not, if it began
+unopened_free : (status : Status) (sink : SinkUse) → GaveUnopened status sink → IsReplayed status → IsFree status
+unopened_free SinkFault sink gave began = tt
+unopened_free JournalFault sink gave began = tt
+unopened_free CloudFault sink gave began = tt
+unopened_free Memory sink gave began = tt
+unopened_free (Foreign at) sink gave began = tt
+unopened_free (Missing name) sink gave began = tt
+unopened_free (Damaged name damage) sink gave began = tt
+unopened_free Worn sink gave began = tt
+unopened_free Words sink gave began = absurd began
+unopened_free Settings sink gave began = absurd began
+unopened_free Done sink gave began = absurd gave
+unopened_free (Malformed at) sink gave began = absurd gave
+unopened_free Early sink gave began = absurd gave
+unopened_free SourceFault sink gave began = absurd gave
+unopened_free Long sink gave began = absurd gave
 
 -- the status of a run that began is exact
 pub ran_exact : {S : Type 0} (g : Ghosts S) (from to : S) (status : Status) (had left : Option (List ℕ)) (sink : SinkUse) → Ran g from to status (record { had = had; left = left }) sink → IsReplayed status
     → WhereTold had (λ bytes. IsExact status bytes)
 ran_exact g from to status None left sink ran began = tt
-ran_exact g from to Done (Some bytes) left sink ran began = read_exact Done (journal_on (g.bytes_of from)) bytes left ran.frames ran.answers ran.last ran.handled ran.ends.0.0
-ran_exact g from to (Malformed at) (Some bytes) left sink ran began =
-    read_exact (Malformed at) (journal_on (g.bytes_of from)) bytes left ran.frames ran.answers ran.last ran.handled ran.ends.0.0
-ran_exact g from to Early (Some bytes) left sink ran began = read_exact Early (journal_on (g.bytes_of from)) bytes left ran.frames ran.answers ran.last ran.handled ran.ends.0.0
-ran_exact g from to Long (Some bytes) left sink ran began = read_exact Long (journal_on (g.bytes_of from)) bytes left ran.frames ran.answers ran.last ran.handled ran.ends.0.0
-ran_exact g from to SourceFault (Some bytes) left sink ran began = exact_free SourceFault bytes tt
-ran_exact g from to SinkFault (Some bytes) left sink ran began = exact_free SinkFault bytes tt
-ran_exact g from to JournalFault (Some bytes) left sink ran began = exact_free JournalFault bytes tt
-ran_exact g from to Memory (Some bytes) left sink ran began = exact_free Memory bytes tt
-ran_exact g from to (Foreign at) (Some bytes) left sink ran began = exact_free (Foreign at) bytes tt
-ran_exact g from to Words (Some bytes) left sink ran began = absurd began
-ran_exact g from to Settings (Some bytes) left sink ran began = absurd began
-ran_exact g from to CloudFault (Some bytes) left sink ran began = absurd ran.ends.0
-ran_exact g from to (Missing name) (Some bytes) left sink ran began = absurd ran.ends.0
-ran_exact g from to (Damaged name damage) (Some bytes) left sink ran began = absurd ran.ends.0
-ran_exact g from to Worn (Some bytes) left sink ran began = absurd ran.ends.0
+ran_exact g from to status (Some bytes) left sink (inl not_opened) began = exact_free status bytes (unopened_free status sink not_opened.gave began)
+ran_exact g from to status (Some bytes) left sink (inr opened) began = opened_exact g from to status bytes left sink opened
 
 -- ---- devices that never fail
 
@@ -253,27 +290,27 @@ ran_exact g from to Worn (Some bytes) left sink ran began = absurd ran.ends.0
 pub never_rose : Rose 0 0 → ⊥
 never_rose rose = absurd (omega (arith, rose))
 
--- of the statuses that are never wrong only a want of memory is left
-free_memory : (v : Status) → IsFree v → (v ≡ SourceFault → ⊥) → (v ≡ SinkFault → ⊥) → (v ≡ JournalFault → ⊥) → ((at : ℕ) → v ≡ Foreign at → ⊥) → v ≡ Memory
-free_memory Done free a b c d = absurd free
-free_memory Words free a b c d = absurd free
-free_memory (Malformed at) free a b c d = absurd free
-free_memory Early free a b c d = absurd free
-free_memory SourceFault free a b c d = absurd (a refl)
-free_memory SinkFault free a b c d = absurd (b refl)
-free_memory JournalFault free a b c d = absurd (c refl)
-free_memory Memory free a b c d = refl
-free_memory (Foreign at) free a b c d = absurd (d at refl)
-free_memory Long free a b c d = absurd free
-free_memory Settings free a b c d = absurd free
-free_memory CloudFault free a b c d = absurd free
-free_memory (Missing name) free a b c d = absurd free
-free_memory (Damaged name damage) free a b c d = absurd free
-free_memory Worn free a b c d = absurd free
+-- of the statuses that are never wrong only a want of memory is left, and that there is no further epoch
+free_memory : (v : Status) → IsFree v → (v ≡ SourceFault → ⊥) → (v ≡ SinkFault → ⊥) → (v ≡ JournalFault → ⊥) → (v ≡ CloudFault → ⊥) → (IsOfDamage v → ⊥) → (v ≡ Memory) ⊎ (v ≡ Worn)
+free_memory SourceFault free a b c d e = absurd (a refl)
+free_memory SinkFault free a b c d e = absurd (b refl)
+free_memory JournalFault free a b c d e = absurd (c refl)
+free_memory CloudFault free a b c d e = absurd (d refl)
+free_memory Memory free a b c d e = inl refl
+free_memory Worn free a b c d e = inr refl
+free_memory (Foreign at) free a b c d e = absurd (e tt)
+free_memory (Missing name) free a b c d e = absurd (e tt)
+free_memory (Damaged name damage) free a b c d e = absurd (e tt)
+free_memory Done free a b c d e = absurd free
+free_memory Words free a b c d e = absurd free
+free_memory (Malformed at) free a b c d e = absurd free
+free_memory Early free a b c d e = absurd free
+free_memory Long free a b c d e = absurd free
+free_memory Settings free a b c d e = absurd free
 
 -- an exact status that blames nothing but the memory
-pub only_memory : (v : Status) (bytes : List ℕ) → IsExact v bytes → (v ≡ SourceFault → ⊥) → (v ≡ SinkFault → ⊥) → (v ≡ JournalFault → ⊥) → ((at : ℕ) → v ≡ Foreign at → ⊥)
-    → (supply : Supply) (journal : JournalView) (frames : List InFrame) (answers : List OutFrame) (last : State) (expected : Status) (rest : List ℕ)
-    → IsReading supply journal bytes frames answers last expected rest → (v ≡ expected) ⊎ (v ≡ Memory)
-only_memory v bytes exact a b c d supply journal frames answers last expected rest reading =
-    ⊎_elim inl (λ free. inr (free_memory v free a b c d)) (exact supply journal frames answers last expected rest reading)
+pub only_memory : (v : Status) (bytes : List ℕ) → IsExact v bytes → (v ≡ SourceFault → ⊥) → (v ≡ SinkFault → ⊥) → (v ≡ JournalFault → ⊥) → (v ≡ CloudFault → ⊥) → (IsOfDamage v → ⊥)
+    → (supply : Supply) (first : State) (frames : List InFrame) (answers : List OutFrame) (last : State) (expected : Status) (rest : List ℕ)
+    → IsReading supply first bytes frames answers last expected rest → (v ≡ expected) ⊎ (v ≡ Memory) ⊎ (v ≡ Worn)
+only_memory v bytes exact a b c d e supply first frames answers last expected rest reading =
+    ⊎_elim inl (λ free. inr (free_memory v free a b c d e)) (exact supply first frames answers last expected rest reading)

@@ -1,4 +1,3 @@
-pub mod Adapter
 pub mod Words
 pub mod Run
 pub mod Stop

@@ -1,21 +1,25 @@
 -- What a run of `replay` did with its source, its sink and its site, by the status with which it ended.
-use Rattle.std.specs.Prelude.{◌≡◌, ◌≢◌, ◌+◌, ◌<◌, ◌≤◌, ◌^◌, ◌⊎◌, ℕ, List, [], ◌∷◌, ◌++◌, length, take, Option, Some}
+use Rattle.std.specs.Prelude.{◌≡◌, ◌≢◌, ◌+◌, ◌<◌, ◌≤◌, ◌^◌, ◌⊎◌, ℕ, true, List, [], ◌∷◌, ◌++◌, length, take, Option, Some}
 use Rattle.std.specs.List.{AllByRecursion}
 use Rattle.sky_base.specs.declared.status.Status.{Status}
 use Rattle.sky_base.specs.declared.status.Status.TheVariants.{Done, Words, Malformed, Early, SourceFault, SinkFault, JournalFault, CloudFault, Memory, Foreign, Missing, Damaged, Worn, Long, Settings}
-use Rattle.sky_journal.specs.Journal.{JournalView}
 use Rattle.sky_outside.specs.Count.{Rose}
-use Rattle.sky_outside.specs.Moments.{LeavesOnly, BesideObjects}
+use Rattle.sky_outside.specs.CloudMap.{CloudMap}
+use Rattle.sky_outside.specs.Moments.{LeavesOnly, MayLeaveNow, OfPair}
 use Rattle.sky_outside.specs.Told.{WhereTold, Had, Given}
 use Rattle.sky_outside.specs.declared.storage.Storage.{Ghosts}
 use Rattle.sky_xdr.specs.Encoding.{AreBytes}
+use Rattle.sky_recover.specs.Opening.{Found, IsFoundOn, LeavesFound, WhereBothTold}
 use Rattle.sky_script.specs.Frame.{InFrame, Begin, Bytes, End, OutFrame, Ended, IsInFrame, session_count, in_frame, in_frames, out_frame, out_frames, magic}
 use Rattle.sky_script.specs.Beginning.{IsRefused, IsCutShort}
 use Rattle.sky_settings.specs.Settings.{default_fields}
-use Rattle.sky_world.specs.Disk.{HoldsPrefix}
+use Rattle.sky_sound.specs.Recovery.{FindsSame}
+use Rattle.sky_world.specs.Finding as step
+use Rattle.sky_world.specs.Finding.{FindsPrefix, floor_of, reached}
 use Rattle.sky_world.specs.Laws.{NoneOutOfMemory}
-use Rattle.sky_world.specs.Meaning.{State, Kept, Absent, Memory as Supply, Ample, Scarce, begun_journal, start, opening, session_at, Step, Steps}
-use Rattle.sky_world.specs.Opening.{IsForeign}
+use Rattle.sky_world.specs.Meaning.{State, Kept, Absent, Memory as Supply, Ample, Scarce, start, opening, session_at, Step, Steps}
+use Rattle.sky_world.specs.Opening.{IsRefusedAs}
+use Rattle.sky_world.specs.World.{IsRestart, tells}
 
 -- how many frames a recording may have, the end among them
 abbrev pub frame_limit : ℕ
@@ -28,23 +32,18 @@ volume = default_fields.volume
 abbrev pub area_size : ℕ
 area_size = default_fields.journal_area
 
--- the journal of a run over a disk of this many bytes, once it is open
-abbrev pub journal_on : ℕ → JournalView
-journal_on disk = begun_journal volume area_size disk
-
--- Frames that were handled, with so much memory, from the start over this journal: these answers came, and this is the state
--- after them.
-pub record Handled (memory : Supply) (journal : JournalView) (frames : List InFrame) (answers : List OutFrame) (last : State) : Type 0 where
+-- Frames that were handled, with so much memory, from an opening on: these answers came, and this is the state after them.
+pub record Handled (memory : Supply) (first : State) (frames : List InFrame) (answers : List OutFrame) (last : State) : Type 0 where
   pub formed : AllByRecursion IsInFrame frames
-  pub steps : Steps memory (start journal) frames answers last
+  pub steps : Steps memory first frames answers last
 
 -- the bytes of a recording: the magic, these frames, and what follows
 abbrev pub recording : List InFrame → List ℕ → List ℕ
 recording frames next = magic ++ in_frames frames ++ next
 
--- the bytes of what is written: the magic, the frame of the opening, and answers
-abbrev pub session_bytes : List OutFrame → List ℕ
-session_bytes answers = magic ++ out_frames (opening ∷ answers)
+-- the bytes of what is written: the magic, the frame of the opening that found this, and answers
+abbrev pub session_bytes : Found → List OutFrame → List ℕ
+session_bytes found answers = magic ++ out_frames (opening found ∷ answers)
 
 -- ---- what a run does with its source
 
@@ -118,116 +117,198 @@ pub record SinkCounts (before now : ℕ) (status : Status) : Type 0 where
 
 -- ---- what a run does with its site
 
--- From s to t, over a run that changed what is kept to this. A crash at any moment leaves what was there before the run, or a
--- journal that reads as a prefix of the history; and a crash behind the run, one that has all changes up to the mark.
-pub record LeavesOfRun {S : Type 0} (g : Ghosts S) (s t : S) (mark : ℕ) (kept : Kept) : Type 0 where
-  pub any_moment : WhereTold (g.image s) (λ read. LeavesOnly g s t (BesideObjects g s (λ left. (left ≡ read) ⊎ HoldsPrefix 0 kept left)))
-  pub behind : 0 < mark → WhereTold (g.image s) (λ read. (left : List ℕ) → g.may_leave t left → HoldsPrefix mark kept left)
+-- what a crash leaves within a step, from this state by this frame to that one: recovery finds a prefix of the history
+abbrev pub LeftWithin : State → InFrame → State → OfPair
+LeftWithin old f new image objects = FindsPrefix (floor_of f old) (reached f old new) image objects
+
+-- What a crash leaves within one of the steps of these frames, handled from a state on.
+pub record LeftBetween (first : State) (frames : List InFrame) (image : List ℕ) (objects : CloudMap) : Type 0 where
+  -- the frames before the step, its own, and those behind it
+  pub before : List InFrame
+  pub f : InFrame
+  pub behind : List InFrame
+  pub parts : frames ≡ before ++ f ∷ behind
+  pub answers : List OutFrame
+  pub old : State
+  pub handled : Steps Scarce first before answers old
+  pub outs : List OutFrame
+  pub new : State
+  pub step : Step Scarce old f outs new
+  pub left : LeftWithin old f new image objects
+
+-- From s to t, over a run that handled these frames from its opening, and then ended within a step, or behind the last one, where this was the
+-- floor and what was reached. Where the site tells what it has, after a crash at any moment recovery finds the same as at the start, or what a
+-- crash leaves within one of the steps; and after a crash behind the run, a prefix of the history that holds the floor.
+pub record LeavesOfRun {S : Type 0} (g : Ghosts S) (s t : S) (first : State) (frames : List InFrame) (floor : ℕ) (reached : Kept) : Type 0 where
+  pub any_moment : WhereBothTold g s (λ read held. LeavesOnly g s t (λ image objects.
+      FindsSame volume area_size read held image objects ⊎ LeftBetween first frames image objects ⊎ FindsPrefix floor reached image objects))
+  pub behind : WhereBothTold g s (λ read held. (image : List ℕ) (objects : CloudMap) → MayLeaveNow g t image objects
+      → FindsPrefix floor reached image objects)
 
 -- ---- how a run ends
 
--- The sink failed: at the opening, before anything was read; at the answer to the frame that was read last, of which it got less
+-- The sink failed: at the frame of the opening, before anything was read; at the answer to the frame that was read last, of which it got less
 -- than all; or at the last frame, behind the end.
-pub data SinkFailed (source : SourceUse) (sink : SinkUse) (frames : List InFrame) (answers : List OutFrame) (last : State) (reached : Kept) : Type 0 where
-  at_opening : frames ≡ [] → reached ≡ last.kept → TookNothing source → GaveUpTo sink [] (session_bytes []) → SinkFailed source sink frames answers last reached
-  at_answer : (f : InFrame) (outs : List OutFrame) (new : State) → IsInFrame f → Step Scarce last f outs new → reached ≡ new.kept → Took source (recording frames (in_frame f))
-      → GaveUpTo sink (session_bytes answers) (out_frames outs) → SinkFailed source sink frames answers last reached
-  at_end : reached ≡ last.kept → Took source (recording frames (in_frame End)) → GaveUpTo sink (session_bytes answers) (out_frame (Ended Done))
-      → SinkFailed source sink frames answers last reached
+pub data SinkFailed (source : SourceUse) (sink : SinkUse) (found : Found) (frames : List InFrame) (answers : List OutFrame) (last : State) (floor : ℕ) (reached : Kept) : Type 0 where
+  at_opening : frames ≡ [] → floor ≡ last.kept.mark → reached ≡ last.kept → TookNothing source → GaveUpTo sink magic (out_frame (opening found))
+      → SinkFailed source sink found frames answers last floor reached
+  at_answer : (f : InFrame) (outs : List OutFrame) (new : State) → IsInFrame f → Step Scarce last f outs new → floor ≡ floor_of f last → reached ≡ step.reached f last new
+      → Took source (recording frames (in_frame f)) → GaveUpTo sink (session_bytes found answers) (out_frames outs) → SinkFailed source sink found frames answers last floor reached
+  at_end : floor ≡ last.kept.mark → reached ≡ last.kept → Took source (recording frames (in_frame End)) → GaveUpTo sink (session_bytes found answers) (out_frame (Ended Done))
+      → SinkFailed source sink found frames answers last floor reached
 
--- A call of the journal's disk failed: at the opening, and nothing was read; or in a record of the frame that was read last. Of that
--- frame, cut behind this record, the sink was given all answers but the last one.
-pub data JournalFailed (source : SourceUse) (sink : SinkUse) (frames : List InFrame) (answers : List OutFrame) (last : State) (reached : Kept) : Type 0 where
-  in_opening : frames ≡ [] → reached ≡ last.kept → TookNothing source → GaveEnding sink magic JournalFault → JournalFailed source sink frames answers last reached
-  in_record : (session : ℕ) (payload : List ℕ) (cut : ℕ) (outs : List OutFrame) (unsaid : OutFrame) (new : State) → IsInFrame (Bytes session payload)
-      → Step Scarce last (Bytes session (take cut payload)) (outs ++ unsaid ∷ []) new → reached ≡ new.kept → Took source (recording frames (in_frame (Bytes session payload)))
-      → GaveEnding sink (session_bytes (answers ++ outs)) JournalFault → JournalFailed source sink frames answers last reached
+-- A restart, which was read last, came to no end, and the run ended with this status: all that was written before it was given.
+pub record RestartFailed (source : SourceUse) (sink : SinkUse) (found : Found) (frames : List InFrame) (answers : List OutFrame) (last : State) (status : Status) (floor : ℕ) (reached : Kept) : Type 0 where
+  pub f : InFrame
+  pub restart : IsRestart f
+  pub floor_is : floor ≡ floor_of f last
+  pub reached_is : reached ≡ last.kept
+  pub took : Took source (recording frames (in_frame f))
+  pub gave : GaveEnding sink (session_bytes found answers) status
 
--- There was no memory: before the opening, and nothing was read; or for a session that had not begun before, and begins in the
--- frame that was read last.
-pub data RanOut (source : SourceUse) (sink : SinkUse) (frames : List InFrame) (answers : List OutFrame) (last : State) : Type 0 where
-  before_opening : frames ≡ [] → TookNothing source → GaveEnding sink magic Memory → RanOut source sink frames answers last
-  at_begin : (session : ℕ) → session < session_count → session_at last session ≡ Absent → Took source (recording frames (in_frame (Begin session)))
-      → GaveEnding sink (session_bytes answers) Memory → RanOut source sink frames answers last
+-- A call of the journal's disk failed in a record of the frame that was read last. Of that frame, cut behind this record, the sink was
+-- given all answers but the last one.
+pub record RecordFailed (source : SourceUse) (sink : SinkUse) (found : Found) (frames : List InFrame) (answers : List OutFrame) (last : State) (floor : ℕ) (reached : Kept) : Type 0 where
+  pub session : ℕ
+  pub payload : List ℕ
+  pub cut : ℕ
+  pub outs : List OutFrame
+  pub unsaid : OutFrame
+  pub new : State
+  pub formed : IsInFrame (Bytes session payload)
+  pub stepped : Step Scarce last (Bytes session (take cut payload)) (outs ++ unsaid ∷ []) new
+  pub floor_is : floor ≡ last.kept.mark
+  pub reached_is : reached ≡ new.kept
+  pub took : Took source (recording frames (in_frame (Bytes session payload)))
+  pub gave : GaveEnding sink (session_bytes found (answers ++ outs)) JournalFault
 
--- what was read and written behind these frames and their answers, by a status that comes between two steps
-abbrev pub EndsBetween : Status → SourceUse → SinkUse → List InFrame → List OutFrame → State → Type 0
-EndsBetween Done source sink frames answers last = ReadTo Done source frames × Gave sink (session_bytes (answers ++ Ended Done ∷ []))
-EndsBetween (Malformed at) source sink frames answers last = ReadTo (Malformed at) source frames × GaveEnding sink (session_bytes answers) (Malformed at)
-EndsBetween Early source sink frames answers last = ReadTo Early source frames × GaveEnding sink (session_bytes answers) Early
-EndsBetween Long source sink frames answers last = ReadTo Long source frames × GaveEnding sink (session_bytes answers) Long
-EndsBetween SourceFault source sink frames answers last = AreFew frames × TookPart source frames × GaveEnding sink (session_bytes answers) SourceFault
-EndsBetween Memory source sink frames answers last = AreFew frames × RanOut source sink frames answers last
--- nothing was read
-EndsBetween (Foreign at) source sink frames answers last = (frames ≡ []) × TookNothing source × GaveEnding sink magic (Foreign at)
--- nothing was read or written
-EndsBetween Words source sink frames answers last = (frames ≡ []) × TookNothing source × (sink.after ≡ sink.before)
-EndsBetween Settings source sink frames answers last = (frames ≡ []) × TookNothing source × (sink.after ≡ sink.before)
--- these come within a step
-EndsBetween SinkFault source sink frames answers last = ⊥
-EndsBetween JournalFault source sink frames answers last = ⊥
--- for now no run asks anything of the cloud
-EndsBetween CloudFault source sink frames answers last = ⊥
-EndsBetween (Missing name) source sink frames answers last = ⊥
-EndsBetween (Damaged name damage) source sink frames answers last = ⊥
-EndsBetween Worn source sink frames answers last = ⊥
+-- There was no memory for a session that had not begun before, and begins in the frame that was read last.
+pub record BeginFailed (source : SourceUse) (sink : SinkUse) (found : Found) (frames : List InFrame) (answers : List OutFrame) (last : State) : Type 0 where
+  pub session : ℕ
+  pub within : session < session_count
+  pub absent : session_at last session ≡ Absent
+  pub took : Took source (recording frames (in_frame (Begin session)))
+  pub gave : GaveEnding sink (session_bytes found answers) Memory
 
--- the same by each status, and what is kept in the state that was reached: where a run ends within a step, it is that to which the
--- step leads
-abbrev pub EndsBy : Status → SourceUse → SinkUse → List InFrame → List OutFrame → State → Kept → Type 0
-EndsBy SinkFault source sink frames answers last reached = AreFew frames × SinkFailed source sink frames answers last reached
-EndsBy JournalFault source sink frames answers last reached = AreFew frames × JournalFailed source sink frames answers last reached
-EndsBy status source sink frames answers last reached = EndsBetween status source sink frames answers last × (reached ≡ last.kept)
+-- the run ended between two steps
+abbrev pub AtRest : ℕ → Kept → State → Type 0
+AtRest floor reached last = (floor ≡ last.kept.mark) × (reached ≡ last.kept)
 
--- A run from s to t that ended with this status: it handled these frames of what the source had, gave the sink all their answers, and
--- then ended so. For some of the calls there may have been no memory. No crash loses a change that was stable.
-pub record Ran {S : Type 0} (g : Ghosts S) (s t : S) (status : Status) (source : SourceUse) (sink : SinkUse) : Type 0 where
+-- what was read and written behind these frames and their answers, by the status, and what a crash then leaves
+abbrev pub EndsBy : Status → SourceUse → SinkUse → Found → List InFrame → List OutFrame → State → ℕ → Kept → Type 0
+EndsBy Done source sink found frames answers last floor reached =
+    ReadTo Done source frames × Gave sink (session_bytes found (answers ++ Ended Done ∷ [])) × AtRest floor reached last
+EndsBy (Malformed at) source sink found frames answers last floor reached =
+    ReadTo (Malformed at) source frames × GaveEnding sink (session_bytes found answers) (Malformed at) × AtRest floor reached last
+EndsBy Early source sink found frames answers last floor reached =
+    ReadTo Early source frames × GaveEnding sink (session_bytes found answers) Early × AtRest floor reached last
+EndsBy Long source sink found frames answers last floor reached =
+    ReadTo Long source frames × GaveEnding sink (session_bytes found answers) Long × AtRest floor reached last
+EndsBy SourceFault source sink found frames answers last floor reached =
+    AreFew frames × TookPart source frames × GaveEnding sink (session_bytes found answers) SourceFault × AtRest floor reached last
+EndsBy SinkFault source sink found frames answers last floor reached = AreFew frames × SinkFailed source sink found frames answers last floor reached
+EndsBy JournalFault source sink found frames answers last floor reached =
+    AreFew frames × (RecordFailed source sink found frames answers last floor reached ⊎ RestartFailed source sink found frames answers last JournalFault floor reached)
+EndsBy Memory source sink found frames answers last floor reached =
+    AreFew frames × (BeginFailed source sink found frames answers last × AtRest floor reached last ⊎ RestartFailed source sink found frames answers last Memory floor reached)
+EndsBy CloudFault source sink found frames answers last floor reached = AreFew frames × RestartFailed source sink found frames answers last CloudFault floor reached
+EndsBy (Foreign at) source sink found frames answers last floor reached = AreFew frames × RestartFailed source sink found frames answers last (Foreign at) floor reached
+EndsBy (Missing name) source sink found frames answers last floor reached = AreFew frames × RestartFailed source sink found frames answers last (Missing name) floor reached
+EndsBy (Damaged name damage) source sink found frames answers last floor reached =
+    AreFew frames × RestartFailed source sink found frames answers last (Damaged name damage) floor reached
+EndsBy Worn source sink found frames answers last floor reached = AreFew frames × RestartFailed source sink found frames answers last Worn floor reached
+-- these come before an opening
+EndsBy Words source sink found frames answers last floor reached = ⊥
+EndsBy Settings source sink found frames answers last floor reached = ⊥
+
+-- A run from s to t that opened the site, and ended with this status: it handled these frames of what the source had, gave the sink all their
+-- answers, and then ended so. For some of the calls there may have been no memory. No crash loses a change that was stable.
+pub record RanOn {S : Type 0} (g : Ghosts S) (s t : S) (status : Status) (source : SourceUse) (sink : SinkUse) : Type 0 where
+  pub found : Found
   pub frames : List InFrame
   pub answers : List OutFrame
   pub last : State
+  pub floor : ℕ
   pub reached : Kept
-  pub handled : Handled Scarce (journal_on (g.bytes_of s)) frames answers last
-  pub ends : EndsBy status source sink frames answers last reached
-  pub leaves : LeavesOfRun g s t last.kept.mark reached
+  pub opened : IsFoundOn g volume area_size s found
+  pub handled : Handled Scarce (start (tells g s) found) frames answers last
+  pub ends : EndsBy status source sink found frames answers last floor reached
+  pub leaves : LeavesOfRun g s t (start (tells g s) found) frames floor reached
+
+-- what was written by a run that did not open its site: nothing, where the words or the settings were refused; or the magic, and the last frame
+abbrev pub GaveUnopened : Status → SinkUse → Type 0
+GaveUnopened Words sink = sink.after ≡ sink.before
+GaveUnopened Settings sink = sink.after ≡ sink.before
+GaveUnopened SinkFault sink = GaveUpTo sink [] magic
+GaveUnopened JournalFault sink = GaveEnding sink magic JournalFault
+GaveUnopened CloudFault sink = GaveEnding sink magic CloudFault
+GaveUnopened Memory sink = GaveEnding sink magic Memory
+GaveUnopened (Foreign at) sink = GaveEnding sink magic (Foreign at)
+GaveUnopened (Missing name) sink = GaveEnding sink magic (Missing name)
+GaveUnopened (Damaged name damage) sink = GaveEnding sink magic (Damaged name damage)
+GaveUnopened Worn sink = GaveEnding sink magic Worn
+GaveUnopened _ sink = ⊥
+
+-- A run from s to t that did not open its site, and ended with this status: nothing was read. After a crash at any moment recovery finds the
+-- same as before.
+pub record RanUnopened {S : Type 0} (g : Ghosts S) (s t : S) (status : Status) (source : SourceUse) (sink : SinkUse) : Type 0 where
+  pub took : TookNothing source
+  pub gave : GaveUnopened status sink
+  pub refused : WhereBothTold g s (IsRefusedAs volume area_size status)
+  pub leaves : LeavesFound g volume area_size s t
+
+abbrev pub Ran : {S : Type 0} → Ghosts S → S → S → Status → SourceUse → SinkUse → Type 0
+Ran g s t status source sink = RanUnopened g s t status source sink ⊎ RanOn g s t status source sink
 
 -- ---- what the bytes of a source ask for
 
--- A reading of a recording, with so much memory, over this journal: these frames are handled, with these answers, and then it stops
+-- A reading of a recording, with so much memory, from this opening on: these frames are handled, with these answers, and then it stops
 -- with this status and leaves the rest.
-pub record IsReading (memory : Supply) (journal : JournalView) (bytes : List ℕ) (frames : List InFrame) (answers : List OutFrame) (last : State) (status : Status) (rest : List ℕ) : Type 0 where
-  pub handled : Handled memory journal frames answers last
+pub record IsReading (memory : Supply) (first : State) (bytes : List ℕ) (frames : List InFrame) (answers : List OutFrame) (last : State) (status : Status) (rest : List ℕ) : Type 0 where
+  pub handled : Handled memory first frames answers last
   pub read : ReadTo status (record { had = Some bytes; left = Some rest }) frames
 
--- Over each journal a recording has a reading with memory for every call, and no two. How much memory there is, and what the journal
--- is, does not matter to the frames, the status and the rest; and a reading whose answers do not tell a want of memory is the one with
--- memory for every call.
+-- From each opening of a site that tells what it has, a recording has a reading with memory for every call, and no two. How much memory there is,
+-- and what was found, does not matter to the frames, the status and the rest, on no site; and a reading whose answers do not tell a want
+-- of memory is the one with memory for every call.
 pub record HasOneReading (bytes : List ℕ) : Type 0 where
-  pub some : (journal : JournalView) → AreBytes bytes → (frames : List InFrame) × (answers : List OutFrame) × (last : State) × (status : Status) × (rest : List ℕ)
-      × IsReading Ample journal bytes frames answers last status rest
-  pub one : (journal : JournalView) (frames others : List InFrame) (answers replies : List OutFrame) (last end : State) (status verdict : Status) (rest more : List ℕ)
-      → IsReading Ample journal bytes frames answers last status rest → IsReading Ample journal bytes others replies end verdict more
+  pub some : (found : Found) → AreBytes bytes → (frames : List InFrame) × (answers : List OutFrame) × (last : State) × (status : Status) × (rest : List ℕ)
+      × IsReading Ample (start true found) bytes frames answers last status rest
+  pub one : (found : Found) (frames others : List InFrame) (answers replies : List OutFrame) (last end : State) (status verdict : Status) (rest more : List ℕ)
+      → IsReading Ample (start true found) bytes frames answers last status rest → IsReading Ample (start true found) bytes others replies end verdict more
       → (frames ≡ others) × (answers ≡ replies) × (last ≡ end) × (status ≡ verdict) × (rest ≡ more)
-  pub any : (memory supply : Supply) (journal other : JournalView) (frames others : List InFrame) (answers replies : List OutFrame) (last end : State) (status verdict : Status) (rest more : List ℕ)
-      → IsReading memory journal bytes frames answers last status rest → IsReading supply other bytes others replies end verdict more
+  pub any : (memory supply : Supply) (first other : State) (frames others : List InFrame) (answers replies : List OutFrame) (last end : State) (status verdict : Status) (rest more : List ℕ)
+      → IsReading memory first bytes frames answers last status rest → IsReading supply other bytes others replies end verdict more
       → (frames ≡ others) × (status ≡ verdict) × (rest ≡ more)
-  pub told : (journal : JournalView) (frames : List InFrame) (answers : List OutFrame) (last : State) (status : Status) (rest : List ℕ)
-      → IsReading Scarce journal bytes frames answers last status rest → NoneOutOfMemory answers → IsReading Ample journal bytes frames answers last status rest
+  pub told : (found : Found) (frames : List InFrame) (answers : List OutFrame) (last : State) (status : Status) (rest : List ℕ)
+      → IsReading Scarce (start true found) bytes frames answers last status rest → NoneOutOfMemory answers
+      → IsReading Ample (start true found) bytes frames answers last status rest
 
--- the statuses that blame a device or the memory, or what was on the journal's disk
+-- the statuses that blame a device or the memory, or what the site had
 abbrev pub IsFree : Status → Type 0
 IsFree SourceFault = Unit {0}
 IsFree SinkFault = Unit {0}
 IsFree JournalFault = Unit {0}
+IsFree CloudFault = Unit {0}
 IsFree Memory = Unit {0}
 IsFree (Foreign at) = Unit {0}
+IsFree (Missing name) = Unit {0}
+IsFree (Damaged name damage) = Unit {0}
+IsFree Worn = Unit {0}
 IsFree _ = ⊥
 
--- the status is that of the reading of these bytes, over whichever journal, unless it blames a device, the memory, or what was on the
--- journal's disk
+-- the status is that of the reading of these bytes, whatever was found, unless it blames a device, the memory, or what the site had
 abbrev pub IsExact : Status → List ℕ → Type 0
 IsExact status bytes =
-    (memory : Supply) (journal : JournalView) (frames : List InFrame) (answers : List OutFrame) (last : State) (expected : Status) (rest : List ℕ)
-    → IsReading memory journal bytes frames answers last expected rest → (status ≡ expected) ⊎ IsFree status
+    (memory : Supply) (first : State) (frames : List InFrame) (answers : List OutFrame) (last : State) (expected : Status) (rest : List ℕ)
+    → IsReading memory first bytes frames answers last expected rest → (status ≡ expected) ⊎ IsFree status
+
+-- a status that says what the site had is none of a site that is sound
+abbrev pub IsOfDamage : Status → Type 0
+IsOfDamage (Foreign at) = Unit {0}
+IsOfDamage (Missing name) = Unit {0}
+IsOfDamage (Damaged name damage) = Unit {0}
+IsOfDamage _ = ⊥
 
 -- a status of a run that began
 abbrev pub IsReplayed : Status → Type 0

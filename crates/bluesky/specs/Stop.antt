@@ -1,27 +1,28 @@
--- How a run opens its journal, goes on by one frame, or stops, and how it then comes to its status.
+-- How a run opens its site, goes on by one frame, or stops, and how it then comes to its status.
 use Rattle.std.specs.Prelude.{◌≡◌, ◌≢◌, ◌<◌, ◌⊎◌, ℕ, List, [], length, Option}
 use Rattle.sky_base.specs.declared.status.Status.{Status}
 use Rattle.sky_base.specs.declared.status.Status.TheVariants as status
 use Rattle.sky_outside.specs.Count.{Rose}
-use Rattle.sky_outside.specs.Moments.{SameCloud}
-use Rattle.sky_outside.specs.Told.{WhereTold, BothTold, Had, Given}
+use Rattle.sky_outside.specs.Told.{WhereTold, Had, Given}
 use Rattle.sky_outside.specs.declared.storage.Storage.{Ghosts}
 use Rattle.sky_script.specs.Frame.{InFrame, End as EndFrame, Ended, IsInFrame, in_frame, out_frame, magic}
 use Rattle.sky_script.specs.Beginning.{IsRefused, IsCutShort, HadSome}
 use Rattle.sky_script.specs.declared.reading.FrameFault.{FrameFault}
 use Rattle.sky_script.specs.declared.reading.FrameFault.TheVariants as fault
-use Rattle.sky_world.specs.Opening.{LeavesBlank}
-use Rattle.sky_world.specs.World.{WorldView, SinkGot, SteppedPart, SteppedDown, BeginsFirst}
-use Rattle.bluesky.specs.Run.{SourceUse, Took, SinkUse, Gave, GaveUpTo, GaveEnding, Ran, session_bytes, volume, area_size}
+use Rattle.sky_recover.specs.Opening.{Found, IsFoundOn, LeavesFound}
+use Rattle.sky_world.specs.Meaning.{State}
+use Rattle.sky_world.specs.Opening.{IsOfOpening, MayRefuse}
+use Rattle.sky_world.specs.World.{WorldView, SinkGot, StepFailed, DidNothing, tells}
+use Rattle.bluesky.specs.Run.{SourceUse, Took, SinkUse, Gave, GaveUpTo, GaveEnding, RanOn, session_bytes, volume, area_size}
 use Rattle.bluesky.specs.declared.frames.Stop.{Stop}
-use Rattle.bluesky.specs.declared.frames.Stop.TheVariants.{End, Malformed, Early, SourceFault, SinkFault, JournalFault, Memory}
+use Rattle.bluesky.specs.declared.frames.Stop.TheVariants.{End, Malformed, Early, SourceFault, Failed}
 
--- from s to t the journal was opened, which was blank
-pub record Opened {S : Type 0} (g : Ghosts S) (s t : S) : Type 0 where
+-- From s to t a site was opened, which found this: recovery finds the same at each moment, and the site tells as much as before.
+pub record Opened {S : Type 0} (g : Ghosts S) (s t : S) (found : Found) : Type 0 where
   pub size : g.bytes_of t ≡ g.bytes_of s
-  pub leaves : LeavesBlank g volume area_size s t
-  pub tells : BothTold (λ old new. Unit {0}) (g.image s) (g.image t)
-  pub beside : SameCloud g s t
+  pub found_on : IsFoundOn g volume area_size s found
+  pub leaves : LeavesFound g volume area_size s t
+  pub tells : tells g t ≡ tells g s
 
 -- why a fault of a frame stops a run
 abbrev pub stop_of : FrameFault → Stop
@@ -29,9 +30,20 @@ stop_of fault.Malformed = Malformed
 stop_of fault.Early = Early
 stop_of fault.SourceFault = SourceFault
 
--- nothing was written, and the site was left alone
-abbrev pub DidNothing : {S : Type 0} → S → S → SinkGot → Type 0
-DidNothing s t sink = (sink.after ≡ sink.before) × (t ≡ s)
+-- a step failed, with a status that comes of one
+abbrev pub IsFailed : Stop → Type 0
+IsFailed (Failed how) = IsOfOpening how ⊎ (how ≡ status.SinkFault)
+IsFailed _ = ⊥
+
+-- no further frame was read; or a step failed so
+abbrev pub IsStop : Stop → Type 0
+IsStop (Failed how) = IsOfOpening how ⊎ (how ≡ status.SinkFault)
+IsStop _ = Unit {0}
+
+-- a restart in this state may be refused so
+abbrev pub MayStop : Stop → State → Type 0
+MayStop (Failed how) state = MayRefuse how state
+MayStop _ state = Unit {0}
 
 -- what is known where no further frame was read and handled, by why: what that call did from s to t, and what the world was before
 abbrev pub StoppedBy : {S : Type 0} → Ghosts S → Stop → WorldView → S → S → SourceUse → SinkGot → Type 0
@@ -39,9 +51,7 @@ StoppedBy g End world s t source sink = Took source (in_frame EndFrame) × DidNo
 StoppedBy g Malformed world s t source sink = HadSome IsRefused source.had source.left × DidNothing s t sink
 StoppedBy g Early world s t source sink = HadSome IsCutShort source.had source.left × WhereTold source.left (λ rest. rest ≡ []) × DidNothing s t sink
 StoppedBy g SourceFault world s t source sink = HadSome IsCutShort source.had source.left × DidNothing s t sink
-StoppedBy g SinkFault world s t source sink = (f : InFrame) × IsInFrame f × Took source (in_frame f) × SteppedPart g world s f t sink
-StoppedBy g JournalFault world s t source sink = (f : InFrame) × IsInFrame f × Took source (in_frame f) × SteppedDown g world s f t sink
-StoppedBy g Memory world s t source sink = (f : InFrame) × IsInFrame f × Took source (in_frame f) × BeginsFirst world f × DidNothing s t sink
+StoppedBy g (Failed how) world s t source sink = (f : InFrame) × IsInFrame f × Took source (in_frame f) × StepFailed g how world s f t sink
 
 -- from a stop at this place, a run ends with this status, and does this with its sink
 abbrev pub Finishes : Stop → ℕ → Status → SinkUse → Type 0
@@ -51,16 +61,15 @@ Finishes End place s sink =
 Finishes Malformed place s sink = (s ≡ status.Malformed place) × GaveEnding sink [] (status.Malformed place)
 Finishes Early place s sink = (s ≡ status.Early) × GaveEnding sink [] status.Early
 Finishes SourceFault place s sink = (s ≡ status.SourceFault) × GaveEnding sink [] status.SourceFault
-Finishes JournalFault place s sink = (s ≡ status.JournalFault) × GaveEnding sink [] status.JournalFault
-Finishes Memory place s sink = (s ≡ status.Memory) × GaveEnding sink [] status.Memory
-Finishes SinkFault place s sink = (s ≡ status.SinkFault) × (sink.after ≡ sink.before) × (sink.faults_after ≡ sink.faults_before)
+Finishes (Failed how) place s sink =
+    (s ≡ how) × (how ≡ status.SinkFault → (sink.after ≡ sink.before) × (sink.faults_after ≡ sink.faults_before)) × (how ≢ status.SinkFault → GaveEnding sink [] how)
 
--- Frames were handled, from t to u, with this end: of each run that had opened its journal, at t, read the magic, and written the
+-- Frames were handled, from t to u, with this end: of each run that had opened its site, at t, read the magic, and written the
 -- frame of the opening, that is what it did.
-abbrev pub RanBehind : {S : Type 0} → Ghosts S → S → S → Status → SourceUse → SinkUse → Type 0
-RanBehind {S} g t u status source sink =
-    (s : S) (had before : Option (List ℕ)) → Opened g s t → Had had source.had magic → Given before sink.before (session_bytes [])
-    → Ran g s u status (record source { had = had }) (record sink { before = before })
+abbrev pub RanBehind : {S : Type 0} → Ghosts S → Found → S → S → Status → SourceUse → SinkUse → Type 0
+RanBehind {S} g found t u status source sink =
+    (s : S) (had before : Option (List ℕ)) → Opened g s t found → Had had source.had magic → Given before sink.before (session_bytes found [])
+    → RanOn g s u status (record source { had = had }) (record sink { before = before })
 
 -- the status of a run that found no magic
 abbrev pub status_of : FrameFault → Status

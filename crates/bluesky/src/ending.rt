@@ -24,8 +24,8 @@ pub fn end_with<K: Sink>(sink: &mut K, status: Status) -> Status
     status
 }
 
-/// Ends a run whose opening failed with this status: writes the last frame, unless the sink was what failed.
-pub fn end_unopened<K: Sink>(sink: &mut K, status: Status) -> Status
+/// Ends a run whose opening, or one of whose steps, failed with this status: writes the last frame, unless the sink was what failed.
+pub fn end_failed<K: Sink>(sink: &mut K, status: Status) -> Status
     ensures status { result ≡ status }
     ensures sunk { status ≡ Status.SinkFault → sink.new ≡ sink.old }
     ensures gave { status ≢ Status.SinkFault → GaveEnding (record {
@@ -60,8 +60,6 @@ pub fn finish<K: Sink>(sink: &mut K, stop: Stop, place: u64) -> Status
         Stop::Malformed => end_with(sink, Status::Malformed { at: place }),
         Stop::Early => end_with(sink, Status::Early),
         Stop::SourceFault => end_with(sink, Status::SourceFault),
-        Stop::SinkFault => Status::SinkFault,
-        Stop::JournalFault => end_with(sink, Status::JournalFault),
-        Stop::Memory => end_with(sink, Status::Memory),
+        Stop::Failed(status) => end_failed(sink, status),
     }
 }

@@ -1,6 +1,6 @@
 //! The frames of a recording, read and handled one after the other.
 
-ghost use Rattle.std.specs.Prelude.{◌≡◌, ◌≢◌, false, ℕ, List, [], length, Option, IfOk, IfErr, IsErrOf, OnOk};
+ghost use Rattle.std.specs.Prelude.{◌≡◌, false, true, ℕ, Bool, List, [], length, Option, IfOk, IfErr, IsErrOf, OnOk};
 ghost use Rattle.std.specs.Bool.{OnTrue, OnFalse};
 ghost use Rattle.sky_outside.specs.Count.{Counts};
 ghost use Rattle.sky_outside.specs.Told.{Had};
@@ -8,10 +8,11 @@ ghost use Rattle.sky_script.specs.Frame as frames;
 ghost use Rattle.sky_script.specs.Frame.{InFrame, IsInFrame, in_frame};
 ghost use Rattle.sky_script.specs.Values.{frame_of};
 ghost use Rattle.sky_world.specs.Carried.{IsServing};
-ghost use Rattle.sky_world.specs.Meaning.{start, IsStep};
+ghost use Rattle.sky_recover.specs.Opening.{Found};
+ghost use Rattle.sky_world.specs.Meaning.{State, start, IsStep};
 ghost use Rattle.sky_world.specs.World.{Stands, Stepped};
-ghost use Rattle.bluesky.specs.Run.{IsReplayed, SinkCounts, journal_on};
-ghost use Rattle.bluesky.specs.Stop.{stop_of, StoppedBy, RanBehind};
+ghost use Rattle.bluesky.specs.Run.{IsOfDamage, IsReplayed, SinkCounts};
+ghost use Rattle.bluesky.specs.Stop.{IsFailed, IsStop, MayStop, stop_of, StoppedBy, RanBehind};
 
 use crate::ending::{end_with, finish};
 use sky_base::Status;
@@ -34,12 +35,8 @@ pub enum Stop {
     Early,
     /// A read failed.
     SourceFault,
-    /// A write failed.
-    SinkFault,
-    /// A call of the journal's disk failed.
-    JournalFault,
-    /// There was no memory for a session.
-    Memory,
+    /// A step failed with this status.
+    Failed(Status),
 }
 
 impl From<FrameFault> for Stop {
@@ -62,7 +59,7 @@ fn is_end(frame: &Frame<'_>) -> bool
     matches!(frame, Frame::End)
 }
 
-/// Does one frame, and writes its answers. It stops where there is no memory, or a write or a call of the disk fails.
+/// Does one frame, and writes its answers. It stops where the step fails.
 fn do_frame<K: Sink, P: Site>(
     alloc: Global,
     frame: &Frame<'_>,
@@ -81,16 +78,16 @@ fn do_frame<K: Sink, P: Site>(
     ensures stopped { IfErr result (λ stop. (had left : Option (List ℕ)) → Had had left (in_frame (frame_of frame.now))
         → StoppedBy P.Storage stop world.old site.old site.new (record { had = had; left = left })
         (record { before = K.written sink.old; after = K.written sink.new })) }
-    ensures source { IsErrOf result Stop.SourceFault → ⊥ }
+    ensures failed { IfErr result IsFailed }
+    ensures refused { IfErr result (λ stop. (state : State) → Stands P.Storage world.old site.old state → MayStop stop state) }
     ensures size { P.bytes_of site.new ≡ P.bytes_of site.old }
-    ensures journal_cause { Counts (P.disk_faults site.old) (P.disk_faults site.new) (IsErrOf result Stop.JournalFault) }
-    ensures cause { Counts (K.faults sink.old) (K.faults sink.new) (IsErrOf result Stop.SinkFault) }
+    ensures journal_cause { Counts (P.disk_faults site.old) (P.disk_faults site.new) (IsErrOf result (Stop.Failed Status.JournalFault)) }
+    ensures cloud_cause { Counts (P.cloud_faults site.old) (P.cloud_faults site.new) (IsErrOf result (Stop.Failed Status.CloudFault)) }
+    ensures cause { Counts (K.faults sink.old) (K.faults sink.new) (IsErrOf result (Stop.Failed Status.SinkFault)) }
 {
     match world.step(alloc, frame, site, sink) {
         Ok(()) => Ok(()),
-        Err(Status::Memory) => Err(Stop::Memory),
-        Err(Status::JournalFault) => Err(Stop::JournalFault),
-        Err(_) => Err(Stop::SinkFault),
+        Err(status) => Err(Stop::Failed(status)),
     }
 }
 
@@ -113,10 +110,13 @@ fn next_frame<S: Source, K: Sink, P: Site>(
     ensures stopped { IfErr result (λ stop. StoppedBy P.Storage stop world.old site.old site.new
         (record { had = S.left source.old; left = S.left source.new })
         (record { before = K.written sink.old; after = K.written sink.new })) }
+    ensures statuses { IfErr result IsStop }
+    ensures refused { IfErr result (λ stop. (state : State) → Stands P.Storage world.old site.old state → MayStop stop state) }
     ensures size { P.bytes_of site.new ≡ P.bytes_of site.old }
     ensures source_cause { Counts (S.faults source.old) (S.faults source.new) (IsErrOf result Stop.SourceFault) }
-    ensures journal_cause { Counts (P.disk_faults site.old) (P.disk_faults site.new) (IsErrOf result Stop.JournalFault) }
-    ensures sink_cause { Counts (K.faults sink.old) (K.faults sink.new) (IsErrOf result Stop.SinkFault) }
+    ensures journal_cause { Counts (P.disk_faults site.old) (P.disk_faults site.new) (IsErrOf result (Stop.Failed Status.JournalFault)) }
+    ensures cloud_cause { Counts (P.cloud_faults site.old) (P.cloud_faults site.new) (IsErrOf result (Stop.Failed Status.CloudFault)) }
+    ensures sink_cause { Counts (K.faults sink.old) (K.faults sink.new) (IsErrOf result (Stop.Failed Status.SinkFault)) }
 {
     let frame = read_frame(source, buf)?;
     let length = frame.length();
@@ -127,7 +127,7 @@ fn next_frame<S: Source, K: Sink, P: Site>(
     Ok(length)
 }
 
-/// Handles frame after frame, from the state of an opening, of a recording whose magic was read. The site is the one over which
+/// Handles frame after frame, from the state of an opening on, of a recording whose magic was read. The site is the one over which
 /// the world was opened.
 pub fn handle_frames<S: Source, K: Sink, P: Site>(
     alloc: Global,
@@ -137,10 +137,9 @@ pub fn handle_frames<S: Source, K: Sink, P: Site>(
     buf: &mut FrameBuf,
     mut world: World,
 ) -> Status
-    requires opened { Stands P.Storage world site.old (start (journal_on (P.bytes_of site.old))) }
     requires going { world.ended ≡ false }
     requires serving { IsServing P.Storage world.service site.old }
-    ensures ran { RanBehind P.Storage site.old site.new result
+    ensures ran { (told : Bool) (found : Found) → Stands P.Storage world site.old (start told found) → RanBehind P.Storage found site.old site.new result
         (record { had = S.left source.old; left = S.left source.new })
         (record {
           before = K.written sink.old;
@@ -149,10 +148,11 @@ pub fn handle_frames<S: Source, K: Sink, P: Site>(
           faults_after = K.faults sink.new;
         }) }
     ensures replayed { IsReplayed result }
-    ensures opened { (at : ℕ) → result ≢ Status.Foreign at }
+    ensures refused { (told : Bool) (found : Found) → Stands P.Storage world site.old (start told found) → told ≡ true → IsOfDamage result → ⊥ }
     ensures size { P.bytes_of site.new ≡ P.bytes_of site.old }
     ensures source_cause { Counts (S.faults source.old) (S.faults source.new) (result ≡ Status.SourceFault) }
     ensures journal_cause { Counts (P.disk_faults site.old) (P.disk_faults site.new) (result ≡ Status.JournalFault) }
+    ensures cloud_cause { Counts (P.cloud_faults site.old) (P.cloud_faults site.new) (result ≡ Status.CloudFault) }
     ensures sink_cause { SinkCounts (K.faults sink.old) (K.faults sink.new) result }
 {
     let mut place = 8;

@@ -13,21 +13,20 @@ mod frames;
 mod infallible;
 mod laws;
 mod run;
-mod stdio;
 mod words;
 
 pub use infallible::run_infallible;
-pub use laws::{a_disk_of_zeros_is_blank, each_recording_has_one_reading};
+pub use laws::{a_blank_site_can_be_opened, each_recording_has_one_reading};
 pub use run::run;
-use sky_base::{NoMemory, Status};
-use sky_memory::SureSite;
+use sky_base::Status;
+use sky_real::{FileSite, StdinSource, StdoutSink};
 use std::alloc::Global;
 use std::env::Args;
 use std::io::{BufReader, ErrorKind};
 use std::process::ExitCode;
 use std::rt::Env;
 use std::{env, fmt, io};
-pub use stdio::{StdinSource, StdoutSink};
+use words::paths_of;
 
 #[cfg(test)]
 mod tests;
@@ -74,19 +73,16 @@ fn settings() -> &'static [u8]
     &[]
 }
 
-/// A site in memory, with a disk of so many bytes, each of them zero.
-fn blank_site(alloc: Global, bytes: u64) -> Result<SureSite, NoMemory> {
-    SureSite::new(alloc, bytes)
-}
-
-/// Runs the command that the words say, over standard input and output. For now the site is in memory, and ends with the process.
+/// Runs the command that the words say, over standard input and output, and over the journal's file and the cloud's folder that they
+/// name. Where the words are refused, no file is opened.
 fn run_words(rt: &HostRuntime, alloc: Global, words: &[String]) -> Status
     ensures words { result ≡ Status.Words → IsReplay (map string_bytes words.now) → ⊥ }
     ensures settings { result ≢ Status.Settings }
 {
-    let Ok(mut site) = blank_site(alloc, DISK_BYTES) else {
+    let Ok(paths) = paths_of(alloc, words) else {
         return Status::Memory;
     };
+    let mut site = FileSite::new(rt, paths, DISK_BYTES);
     let Ok(input) = BufReader::new(alloc, rt.stdin()) else {
         return Status::Memory;
     };

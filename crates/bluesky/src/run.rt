@@ -1,23 +1,25 @@
 //! The run of a recorded session, from its words to its status.
 
-ghost use Rattle.std.specs.Prelude.{◌≡◌, ◌<◌, ◌↔◌, ◌⊎◌, ℕ, false, [], map, string_bytes, length, IfOk, IfErr, IsErrOf, OnOk};
+ghost use Rattle.std.specs.Prelude.{◌≡◌, ◌<◌, ◌↔◌, ◌⊎◌, ℕ, Bool, false, true, List, [], map, string_bytes, length, Option, IfOk, IfErr, IsErr, IsErrOf, OnErr, OnOk};
 ghost use Rattle.sky_outside.specs.Count.{Counts};
 ghost use Rattle.sky_outside.specs.Moments.{NothingPending};
 ghost use Rattle.sky_outside.specs.Told.{WhereTold, Had, Given, GivenPart};
-ghost use Rattle.sky_script.specs.Frame.{magic};
+ghost use Rattle.sky_recover.specs.Opening.{Found, IsFoundOn, LeavesFound, WhereBothTold};
+ghost use Rattle.sky_script.specs.Frame.{magic, out_frame};
+ghost use Rattle.sky_sound.specs.Recovery.{IsSound};
 ghost use Rattle.sky_world.specs.Carried.{IsServing};
-ghost use Rattle.sky_world.specs.Meaning.{start};
-ghost use Rattle.sky_world.specs.Opening.{IsBlank, IsForeign, IsOfOpening, LeavesBlank};
-ghost use Rattle.sky_world.specs.World.{Stands};
+ghost use Rattle.sky_world.specs.Meaning.{start, opening};
+ghost use Rattle.sky_world.specs.Opening.{IsOfOpening, IsRefusedAs};
+ghost use Rattle.sky_world.specs.World.{Stands, tells};
 ghost use Rattle.bluesky.specs.Words.{IsReplay};
-ghost use Rattle.bluesky.specs.Run.{Ran, IsExact, IsReplayed, SinkCounts, area_size, journal_on, session_bytes, volume};
+ghost use Rattle.bluesky.specs.Run.{Ran, RanOn, IsExact, IsOfDamage, IsReplayed, SinkCounts, area_size, session_bytes, volume};
 ghost use Rattle.bluesky.specs.Stop.{NoMagic, Opened, status_of};
 
-use crate::ending::{end_unopened, end_with};
+use crate::ending::{end_failed, end_with};
 use crate::frames::handle_frames;
 use crate::words::are_replay;
 use sky_base::Status;
-use sky_outside::{Sink, Site, Source, fill, write_all};
+use sky_outside::{Failed, Sink, Site, Source, fill, write_all};
 use sky_script::{FrameBuf, FrameFault};
 use sky_settings::Settings;
 use sky_world::World;
@@ -26,34 +28,43 @@ use std::alloc::Global;
 /// What a recording begins with, and so does what is written.
 const MAGIC: [u8; 8] = *b"SKYREC1\n";
 
-/// Begins what is written: the magic, and once the journal is open the frame of the opening.
+/// Begins what is written: the magic.
+fn write_magic<K: Sink>(sink: &mut K) -> Result<(), Status>
+    ensures ok { OnOk result (Given (K.written sink.old) (K.written sink.new) magic) }
+    ensures partly { OnErr result (GivenPart (K.written sink.old) (K.written sink.new) magic) }
+    ensures status { IfErr result (λ status. status ≡ Status.SinkFault) }
+    ensures cause { Counts (K.faults sink.old) (K.faults sink.new) (IsErr result) }
+{
+    match write_all(sink, &MAGIC) {
+        Ok(()) => Ok(()),
+        Err(Failed) => Err(Status::SinkFault),
+    }
+}
+
+/// Opens the site, and writes the frame of the opening.
 ///
-/// `Memory` where there was none for the buffers, `JournalFault` where a call of the disk failed, and `Foreign` where the journal can't
-/// be opened; the magic was written then. `SinkFault` where a write failed.
+/// `Memory` where there was none for the buffers, and else what `World::start` answers.
 fn open<K: Sink, P: Site>(
     alloc: Global,
     sink: &mut K,
     site: &mut P,
 ) -> Result<(FrameBuf, World), Status>
     requires settled { NothingPending P.Storage site.old }
-    ensures world { IfOk result (λ opened. Stands P.Storage opened.1 site.new (start (journal_on (P.bytes_of site.old)))) }
+    ensures world { IfOk result (λ opened. (found : Found) × Opened P.Storage site.old site.new found
+        × Stands P.Storage opened.1 site.new (start (tells P.Storage site.old) found) × Given (K.written sink.old) (K.written sink.new) (out_frame (opening found))) }
     ensures going { IfOk result (λ opened. opened.1.ended ≡ false) }
     ensures serving { IfOk result (λ opened. IsServing P.Storage opened.1.service site.new) }
-    ensures ok { OnOk result (Given (K.written sink.old) (K.written sink.new) (session_bytes [])) }
-    ensures opened { OnOk result (Opened P.Storage site.old site.new) }
-    ensures unopened { IfErr result (λ status. IsOfOpening status → Given (K.written sink.old) (K.written sink.new) magic) }
-    ensures partly { IsErrOf result Status.SinkFault
-        → GivenPart (K.written sink.old) (K.written sink.new) (session_bytes []) }
-    ensures any_moment { LeavesBlank P.Storage volume area_size site.old site.new }
-    ensures foreign { (at : ℕ) → IsErrOf result (Status.Foreign at) → WhereTold (P.image site.old) (IsForeign volume area_size at) }
+    ensures unwritten { IfErr result (λ status. IsOfOpening status → sink.new ≡ sink.old) }
+    ensures partly { IsErrOf result Status.SinkFault → (found : Found) × IsFoundOn P.Storage volume area_size site.old found
+        × GivenPart (K.written sink.old) (K.written sink.new) (out_frame (opening found)) }
+    ensures any_moment { LeavesFound P.Storage volume area_size site.old site.new }
+    ensures refused { IfErr result (λ status. WhereBothTold P.Storage site.old (IsRefusedAs volume area_size status)) }
     ensures statuses { IfErr result (λ status. IsOfOpening status ⊎ (status ≡ Status.SinkFault)) }
     ensures size { P.bytes_of site.new ≡ P.bytes_of site.old }
     ensures journal_cause { Counts (P.disk_faults site.old) (P.disk_faults site.new) (IsErrOf result Status.JournalFault) }
+    ensures cloud_cause { Counts (P.cloud_faults site.old) (P.cloud_faults site.new) (IsErrOf result Status.CloudFault) }
     ensures cause { Counts (K.faults sink.old) (K.faults sink.new) (IsErrOf result Status.SinkFault) }
 {
-    if write_all(sink, &MAGIC).is_err() {
-        return Err(Status::SinkFault);
-    }
     let Ok(buf) = FrameBuf::new(alloc) else {
         return Err(Status::Memory);
     };
@@ -90,7 +101,42 @@ fn magic_status(fault: FrameFault) -> Status
     }
 }
 
-/// Replays a recording: opens the journal, reads the recording from the source, and writes to the sink what it means.
+/// Reads a recording over a site that was opened, and writes what it means.
+fn replay_opened<S: Source, K: Sink, P: Site>(
+    alloc: Global,
+    source: &mut S,
+    sink: &mut K,
+    site: &mut P,
+    mut buf: FrameBuf,
+    world: World,
+) -> Status
+    requires going { world.ended ≡ false }
+    requires serving { IsServing P.Storage world.service site.old }
+    ensures ran { (first : P) (before : Option (List ℕ)) (found : Found) → Opened P.Storage first site.old found
+        → Stands P.Storage world site.old (start (tells P.Storage first) found) → Given before (K.written sink.old) (session_bytes found [])
+        → RanOn P.Storage first site.new result
+        (record { had = S.left source.old; left = S.left source.new })
+        (record {
+          before = before;
+          after = K.written sink.new;
+          faults_before = K.faults sink.old;
+          faults_after = K.faults sink.new;
+        }) }
+    ensures replayed { IsReplayed result }
+    ensures refused { (told : Bool) (found : Found) → Stands P.Storage world site.old (start told found) → told ≡ true → IsOfDamage result → ⊥ }
+    ensures size { P.bytes_of site.new ≡ P.bytes_of site.old }
+    ensures source_cause { Counts (S.faults source.old) (S.faults source.new) (result ≡ Status.SourceFault) }
+    ensures journal_cause { Counts (P.disk_faults site.old) (P.disk_faults site.new) (result ≡ Status.JournalFault) }
+    ensures cloud_cause { Counts (P.cloud_faults site.old) (P.cloud_faults site.new) (result ≡ Status.CloudFault) }
+    ensures sink_cause { SinkCounts (K.faults sink.old) (K.faults sink.new) result }
+{
+    match read_magic(source) {
+        Ok(()) => handle_frames(alloc, source, sink, site, &mut buf, world),
+        Err(fault) => end_with(sink, magic_status(fault)),
+    }
+}
+
+/// Replays a recording: opens the site, reads the recording from the source, and writes to the sink what it means.
 fn replay<S: Source, K: Sink, P: Site>(
     alloc: Global,
     source: &mut S,
@@ -107,29 +153,29 @@ fn replay<S: Source, K: Sink, P: Site>(
           faults_after = K.faults sink.new;
         }) }
     ensures replayed { IsReplayed result }
-    ensures foreign { (at : ℕ) → result ≡ Status.Foreign at → WhereTold (P.image site.old) (IsForeign volume area_size at) }
+    ensures sound { IsOfDamage result → WhereBothTold P.Storage site.old (λ image objects. IsSound volume area_size image objects → ⊥) }
     ensures size { P.bytes_of site.new ≡ P.bytes_of site.old }
     ensures source_cause { Counts (S.faults source.old) (S.faults source.new) (result ≡ Status.SourceFault) }
     ensures journal_cause { Counts (P.disk_faults site.old) (P.disk_faults site.new) (result ≡ Status.JournalFault) }
+    ensures cloud_cause { Counts (P.cloud_faults site.old) (P.cloud_faults site.new) (result ≡ Status.CloudFault) }
     ensures sink_cause { SinkCounts (K.faults sink.old) (K.faults sink.new) result }
 {
-    let (mut buf, world) = match open(alloc, sink, site) {
-        Ok(opened) => opened,
-        Err(status) => return end_unopened(sink, status),
-    };
-    match read_magic(source) {
-        Ok(()) => handle_frames(alloc, source, sink, site, &mut buf, world),
-        Err(fault) => end_with(sink, magic_status(fault)),
+    if let Err(status) = write_magic(sink) {
+        return status;
+    }
+    match open(alloc, sink, site) {
+        Ok((buf, world)) => replay_opened(alloc, source, sink, site, buf, world),
+        Err(status) => end_failed(sink, status),
     }
 }
 
 /// Runs the command that the words say, `replay --journal PATH --cloud PATH`, over these devices, and
-/// says how it ended. For now the settings are an empty text, the journal is one that is blank, and the cloud is left alone.
+/// says how it ended. For now the settings are an empty text.
 ///
-/// It writes the magic, opens the journal on the site's disk, and writes the frame of the opening. Then it reads a recorded session from
+/// It writes the magic, opens the site, whatever it has, and writes the frame of the opening. Then it reads a recorded session from
 /// the source, and writes the answers to its frames, and at its end a frame that says how it ended. A change goes through the journal, and
-/// one that is to be stable is on the disk before its answer is written. What comes is in the docs of `Status`; if it refuses the
-/// words or the settings, it reads and writes nothing.
+/// one that is to be stable is on the disk before its answer is written; what was stable is found again by the next run, and by a restart within
+/// this one. What comes is in the docs of `Status`; if it refuses the words or the settings, it reads and writes nothing.
 ///
 /// When it begins, nothing that was written to the disk may wait for a sync.
 pub fn run<S: Source, K: Sink, P: Site>(
@@ -150,8 +196,8 @@ pub fn run<S: Source, K: Sink, P: Site>(
     ensures sink_untouched { (IsReplayed result → ⊥) → sink.new ≡ sink.old }
     ensures site_untouched { (IsReplayed result → ⊥) → site.new ≡ site.old }
 
-    // What was read, what was written, and what a crash leaves of the journal, by the status: the meaning of the frames that were
-    // handled.
+    // What was read, what was written, and what recovery finds after a crash at any moment, by the status: the meaning of the frames that were
+    // handled, in the history that the site stood for.
     ensures ran { Ran P.Storage site.old site.new result
         (record { had = S.left source.old; left = S.left source.new })
         (record {
@@ -161,9 +207,8 @@ pub fn run<S: Source, K: Sink, P: Site>(
           faults_after = K.faults sink.new;
         }) }
 
-    // A journal that is refused can't be opened, as it stood when the run began; and one that is blank is not refused.
-    ensures foreign { (at : ℕ) → result ≡ Status.Foreign at → WhereTold (P.image site.old) (IsForeign volume area_size at) }
-    ensures blank { (at : ℕ) → result ≡ Status.Foreign at → WhereTold (P.image site.old) (λ image. IsBlank area_size image → ⊥) }
+    // No sound site is refused for what it has.
+    ensures sound { IsOfDamage result → WhereBothTold P.Storage site.old (λ image objects. IsSound volume area_size image objects → ⊥) }
 
     // Each other status is the one that the bytes of the source ask for.
     ensures exact { IsReplayed result → WhereTold (S.left source.old) (IsExact result) }
@@ -171,6 +216,7 @@ pub fn run<S: Source, K: Sink, P: Site>(
     // A device is blamed only where it failed in this run.
     ensures source_cause { Counts (S.faults source.old) (S.faults source.new) (result ≡ Status.SourceFault) }
     ensures journal_cause { Counts (P.disk_faults site.old) (P.disk_faults site.new) (result ≡ Status.JournalFault) }
+    ensures cloud_cause { Counts (P.cloud_faults site.old) (P.cloud_faults site.new) (result ≡ Status.CloudFault) }
     ensures sink_cause { SinkCounts (K.faults sink.old) (K.faults sink.new) result }
 
     ensures size { P.bytes_of site.new ≡ P.bytes_of site.old }

@@ -2,7 +2,8 @@ ghost use Rattle.std.specs.Prelude.{IfOk};
 ghost use Rattle.sky_outside.specs.Moments.{NothingPending};
 
 use super::*;
-use sky_memory::{Fail as FailingCall, MemSink, MemSite, MemSource};
+use sky_base::{Dir, SegName};
+use sky_memory::{Fail as FailingCall, MemSink, MemSite, MemSource, SureSite};
 use sky_outside::{Disk, Failed, Site, Source, Storage};
 use std::process::Abort;
 use std::test::Fail;
@@ -23,8 +24,55 @@ const REPLY: [u8; 28] = [
     0x80, 0, 0, 24, 0, 0, 0, 1, 0, 0, 0, 1, 0, 0, 0, 0, 0, 0, 0, 0, 0, 0, 0, 0, 0, 0, 0, 0,
 ];
 
-/// What the frame of the opening carries.
+/// What the frame of an opening carries that found nothing: the first epoch, no changes, and none of them in the journal.
 const OPENING: [u8; 20] = [0, 0, 0, 0, 0, 0, 0, 1, 0, 0, 0, 0, 0, 0, 0, 0, 0, 0, 0, 0];
+
+/// The same of one in the second epoch.
+const SECOND: [u8; 20] = [0, 0, 0, 0, 0, 0, 0, 2, 0, 0, 0, 0, 0, 0, 0, 0, 0, 0, 0, 0];
+
+/// The header of an open area of the volume 1 with no changes before it, and a batch of one entry, in words: a WRITE to a file that
+/// is not there.
+static AREA: [u32; 39] = [
+    0x0100_0000,
+    0,
+    0,
+    1,
+    0,
+    0,
+    0,
+    0,
+    0,
+    0,
+    0,
+    0,
+    0,
+    0,
+    0,
+    0,
+    0x0100_0000,
+    1,
+    0,
+    76,
+    72,
+    12,
+    0,
+    65534,
+    65534,
+    0,
+    7,
+    16,
+    0,
+    1,
+    0,
+    2,
+    0,
+    0,
+    5,
+    2,
+    5,
+    0x6865_6c6c,
+    0x6f00_0000,
+];
 
 fn words_of_texts(alloc: Global, texts: &[&str]) -> Result<Vec<String>, Fail> {
     let mut words = Vec::new(alloc);
@@ -56,8 +104,19 @@ fn recording(alloc: Global, frames: &[Parts<'_>]) -> Result<Vec<u8>, Fail> {
 /// What is written with these answers: the magic, the opening, the answers, and this status at this
 /// place.
 fn written(alloc: Global, answers: &[Parts<'_>], status: u8, place: u8) -> Result<Vec<u8>, Fail> {
+    written_behind(alloc, &OPENING, answers, status, place)
+}
+
+/// The same behind this opening.
+fn written_behind(
+    alloc: Global,
+    opening: &[u8],
+    answers: &[Parts<'_>],
+    status: u8,
+    place: u8,
+) -> Result<Vec<u8>, Fail> {
     let mut bytes = Vec::from_slice(alloc, b"SKYREC1\n")?;
-    put_frame(&mut bytes, (19, 0, &OPENING))?;
+    put_frame(&mut bytes, (19, 0, opening))?;
     for answer in answers {
         put_frame(&mut bytes, *answer)?;
     }
@@ -75,12 +134,9 @@ fn source_of(alloc: Global, bytes: &[u8], fail: &[u64]) -> Result<MemSource, Fai
     ))
 }
 
-/// A blank disk with room for a journal.
+/// A blank disk with room for a journal, and an empty cloud.
 fn new_site(alloc: Global) -> Result<SureSite, Fail> {
-    match blank_site(alloc, DISK_BYTES) {
-        Ok(site) => Ok(site),
-        Err(_) => Err("no memory".into()),
-    }
+    Ok(SureSite::new(alloc, DISK_BYTES)?)
 }
 
 /// Replays a source over a site, into a sink whose calls of these numbers fail, and hands the sink back.
@@ -99,7 +155,7 @@ fn replay_over<S: Source, P: Site>(
     Ok((status, sink))
 }
 
-/// Does so over a site whose journal is made blank first: the gate of its first area is closed.
+/// Does so over a site that is made blank first: the gate of its first area is closed, and its first epoch was not claimed.
 fn replay<S: Source>(
     alloc: Global,
     source: &mut S,
@@ -110,6 +166,13 @@ fn replay<S: Source>(
         return Err("no disk".into());
     }
     site.write_at(0, &[0]).map_err(|_| "not wiped")?;
+    let boot = SegName {
+        dir: Dir::Proxy,
+        run: 1,
+        seq: 0,
+        last: false,
+    };
+    site.remove(boot).map_err(|_| "not removed")?;
     replay_over(alloc, source, site, fail)
 }
 
@@ -369,7 +432,7 @@ fn recordings_end(rt: HostRuntime) -> Result<(), Fail> {
         Status::Malformed { at: 17 },
     )?;
     each_recording_has_one_reading();
-    a_disk_of_zeros_is_blank();
+    a_blank_site_can_be_opened();
     Ok(())
 }
 
@@ -478,7 +541,7 @@ fn not_begun(
     let words = words_of_texts(alloc, words)?;
     let mut source = source_of(alloc, b"SKYREC1\n", &[])?;
     let mut sink = MemSink::new(alloc, 1000, Vec::new(alloc)).map_err(|_| "no memory")?;
-    let mut site = blank_site(alloc, 0).map_err(|_| "no memory")?;
+    let mut site = SureSite::new(alloc, 0)?;
     let ended = run(alloc, &words, settings, &mut source, &mut sink, &mut site);
     assert_eq!(rt; ended, status, "of {words:?}");
     assert!(rt; sink.bytes().is_empty(), "of {words:?}");
@@ -505,7 +568,10 @@ fn other_words_and_settings_are_refused(rt: HostRuntime) -> Result<(), Fail> {
     not_begun(&rt, alloc, &more, &[], words)
 }
 
-/// That a run over this site ends so, before it opens a journal: it has written the magic and the end, with this status at this
+/// The recording of no frames.
+const NO_FRAMES: &[u8] = b"SKYREC1\n\x63\0\0\0\0\0\0\0\0";
+
+/// That a run over this site ends so, and does not open it: it has written the magic and the end, with this status at this
 /// place.
 fn not_opened<P: Site>(
     rt: &impl Abort,
@@ -516,7 +582,7 @@ fn not_opened<P: Site>(
 ) -> Result<(), Fail>
     requires { NothingPending P.Storage site.old }
 {
-    let mut source = source_of(alloc, b"SKYREC1\n\x63\0\0\0\0\0\0\0\0", &[])?;
+    let mut source = source_of(alloc, NO_FRAMES, &[])?;
     let (ended, sink) = replay_over(alloc, &mut source, site, &[])?;
     let [number, place] = end;
     let mut wanted = Vec::from_slice(alloc, b"SKYREC1\n")?;
@@ -529,39 +595,96 @@ fn not_opened<P: Site>(
     Ok(())
 }
 
-#[test]
-fn only_a_blank_journal_is_opened(rt: HostRuntime) -> Result<(), Fail> {
-    let alloc = rt.alloc();
-    let mut small = blank_site(alloc, 100).map_err(|_| "no memory")?;
-    let too_small = Status::Foreign { at: 100 };
-    not_opened(&rt, alloc, &mut small, too_small, [9, 100])?;
-    // After a run an area is open.
-    let mut site = new_site(alloc)?;
-    ends(&rt, alloc, &mut site, b"SKYREC1", Status::Early)?;
-    let open = Status::Foreign { at: 0 };
-    not_opened(&rt, alloc, &mut site, open, [9, 0])
+/// That a run over this site opens it so, and is done.
+fn opened<P: Site>(rt: &impl Abort, alloc: Global, site: &mut P, opening: &[u8]) -> Result<(), Fail>
+    requires { NothingPending P.Storage site.old }
+{
+    let mut source = source_of(alloc, NO_FRAMES, &[])?;
+    let (ended, sink) = replay_over(alloc, &mut source, site, &[])?;
+    assert_eq!(rt; ended, Status::Done);
+    let wanted = written_behind(alloc, opening, &[], 0, 0)?;
+    assert_eq!(rt; sink.bytes(), wanted.as_slice());
+    Ok(())
 }
 
-/// A blank disk of so many bytes, of which the call of this number fails.
-fn failing_site(alloc: Global, bytes: u64, call: u64) -> Result<MemSite, Fail>
+/// That a disk that begins with these words is foreign there.
+fn foreign(
+    rt: &impl Abort,
+    alloc: Global,
+    site: &mut SureSite,
+    words: &[u32],
+    at: u8,
+) -> Result<(), Fail> {
+    let mut bytes = Vec::new(alloc);
+    for word in words {
+        bytes.extend_from_slice(&word.to_be_bytes())?;
+    }
+    if bytes.len() as u64 > site.size() {
+        return Err("a small disk".into());
+    }
+    site.write_at(0, bytes.as_slice())
+        .map_err(|_| "not written")?;
+    let status = Status::Foreign { at: u64::from(at) };
+    not_opened(rt, alloc, site, status, [9, at])
+}
+
+#[test]
+fn a_foreign_disk_is_refused(rt: HostRuntime) -> Result<(), Fail> {
+    let alloc = rt.alloc();
+    let mut small = SureSite::new(alloc, 100)?;
+    foreign(&rt, alloc, &mut small, &[], 100)?;
+    let mut site = new_site(alloc)?;
+    // Another volume; and an entry whose change is not answered OK.
+    foreign(&rt, alloc, &mut site, &[0x0100_0000, 0, 0, 2], 8)?;
+    foreign(&rt, alloc, &mut site, &AREA, 80)
+}
+
+#[test]
+fn a_site_is_opened_twice(rt: HostRuntime) -> Result<(), Fail> {
+    let alloc = rt.alloc();
+    let mut site = new_site(alloc)?;
+    opened(&rt, alloc, &mut site, &OPENING)?;
+    opened(&rt, alloc, &mut site, &SECOND)
+}
+
+/// A blank site of which the call of this number fails, after it happened or not.
+fn failing_site(alloc: Global, call: u64, happened: bool) -> Result<MemSite, Fail>
     ensures { IfOk result (λ site. NothingPending ⟦<MemSite as Storage>⟧ site) }
 {
     let mut fail = Vec::new(alloc);
-    fail.push(FailingCall {
-        call,
-        happened: false,
-    })?;
-    match MemSite::new(alloc, bytes, Vec::new(alloc), 20, 4096, fail) {
-        Ok(site) => Ok(site),
-        Err(_) => Err("no memory".into()),
+    fail.push(FailingCall { call, happened })?;
+    Ok(MemSite::new(alloc, DISK_BYTES, Vec::new(alloc), 100, 10_000, fail)?)
+}
+
+/// How many calls of its site the opening of a blank one is.
+fn opening_calls(alloc: Global) -> Result<u64, Fail> {
+    let mut site = failing_site(alloc, 99, false)?;
+    let mut source = source_of(alloc, NO_FRAMES, &[])?;
+    let (status, _) = replay_over(alloc, &mut source, &mut site, &[])?;
+    if status == Status::Done {
+        Ok(site.calls())
+    } else {
+        Err("not done".into())
     }
 }
 
+/// The opening lists the cloud, reads a byte of each area, puts the object of its epoch, and then closes both areas and opens the first.
 #[test]
-fn a_disk_fails_in_the_opening(rt: HostRuntime) -> Result<(), Fail> {
+fn a_device_fails_in_the_opening(rt: HostRuntime) -> Result<(), Fail> {
     let alloc = rt.alloc();
-    let mut site = failing_site(alloc, DISK_BYTES, 0)?;
-    not_opened(&rt, alloc, &mut site, Status::JournalFault, [6, 0])
+    let cloud = Status::CloudFault;
+    let journal = Status::JournalFault;
+    let mut unlisted = failing_site(alloc, 0, false)?;
+    not_opened(&rt, alloc, &mut unlisted, cloud, [7, 0])?;
+    let mut unread = failing_site(alloc, 1, false)?;
+    not_opened(&rt, alloc, &mut unread, journal, [6, 0])?;
+    // The next run finds that the object was put, and takes the epoch behind it.
+    let mut unsure = failing_site(alloc, 3, true)?;
+    not_opened(&rt, alloc, &mut unsure, cloud, [7, 0])?;
+    let mut next = unsure.stopped(unsure.calls(), 0)?;
+    opened(&rt, alloc, &mut next, &SECOND)?;
+    let mut last = failing_site(alloc, opening_calls(alloc)?.saturating_sub(1), false)?;
+    not_opened(&rt, alloc, &mut last, journal, [6, 0])
 }
 
 #[test]

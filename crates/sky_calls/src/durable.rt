@@ -1,14 +1,15 @@
 //! The file tree with the journal that its changes go through.
 
-ghost use Rattle.std.specs.Prelude.{◌≡◌, ◌<◌, ◌≤◌, ◌^◌, [], ◌∷◌, ◌++◌, true, false, length, IfOk, IsErr, IsSome, IsTrue, OnErr, OnOk, is_err};
+ghost use Rattle.std.specs.Prelude.{◌≡◌, ◌<◌, ◌≤◌, ◌^◌, ◌⊎◌, ℕ, List, [], ◌∷◌, ◌++◌, None, true, false, length, IfOk, IsErr, IsSome, IsTrue, OnErr, OnOk, is_err};
 ghost use Rattle.sky_nfs.specs.Calls.{is_change};
 ghost use Rattle.sky_nfs.specs.History.{is_done, tree_after_change};
 ghost use Rattle.sky_nfs.specs.Procedure.{procedure};
 ghost use Rattle.sky_nfs.specs.Validity.{IsValidTree};
-ghost use Rattle.sky_entry.specs.Entry.{entry_bytes};
+ghost use Rattle.sky_entry.specs.Entry.{entry_bytes, IsEntry};
 ghost use Rattle.sky_outside.specs.Count.{Counts};
-ghost use Rattle.sky_outside.specs.Moments.{SameCloud};
-ghost use Rattle.sky_journal.specs.Journal.{IsJournal, StandsOn, SameButSpare, IsFramed, after_commit, room_of, wanted_of};
+ghost use Rattle.sky_outside.specs.Moments.{SameCloud, LeavesOnly, BesideObjects};
+ghost use Rattle.sky_outside.specs.Told.{WhereTold, BothTold};
+ghost use Rattle.sky_journal.specs.Journal.{IsJournal, StandsFor, StandsOn, Reads, SameButSpare, IsFramed, after_commit, without_newer, wiped, room_of, wanted_of};
 ghost use Rattle.sky_calls.specs.Durable.{is_down, IfDone, IfPutOff, IfJukebox, HoldsMore, entries_kept, LeavesMore, LeavesOldOrAll, LeavesOldOrMore, Lasts, journal_after};
 ghost use Rattle.sky_calls.specs.Stable.{is_stable_call};
 ghost use Rattle.sky_tree.specs.Memory.{takes_memory};
@@ -94,6 +95,8 @@ impl DurableTree {
         ensures journal { IfDone result (λ _. SameButSpare (journal_after (is_stable_call change.now.call) self.old.journal (entry_bytes change.now)) self.new.journal) }
         ensures holds { IfDone result (λ _. HoldsMore D.Storage disk.old disk.new self.old.journal self.new.journal
             (entries_kept (is_stable_call change.now.call) self.old.journal (entry_bytes change.now))) }
+        ensures formed { IfDone result (λ _. IsEntry (entry_bytes change.now) change.now) }
+        ensures tried_formed { is_down result ≡ true → IsEntry (entry_bytes change.now) change.now }
         ensures stands { is_down result ≡ false → StandsOn D.Storage self.new.journal disk.new }
         ensures durable { IfDone result (λ _. is_stable_call change.now.call ≡ true → Lasts D.Storage disk.old disk.new self.old.journal (entry_bytes change.now)) }
         ensures any_moment { LeavesOldOrAll D.Storage disk.old disk.new self.old.journal (entry_bytes change.now) }
@@ -153,6 +156,7 @@ impl DurableTree {
             → SameButSpare (journal_after (is_stable_call change.now.call) self.old.journal (entry_bytes change.now)) self.new.journal) }
         ensures holds { IfDone result (λ _. is_done self.old.tree change.now ≡ true → HoldsMore D.Storage disk.old disk.new self.old.journal self.new.journal
             (entries_kept (is_stable_call change.now.call) self.old.journal (entry_bytes change.now))) }
+        ensures formed { IfDone result (λ _. is_done self.old.tree change.now ≡ true → IsEntry (entry_bytes change.now) change.now) }
         ensures refused { is_done self.old.tree change.now ≡ false → (self.new ≡ self.old) × (disk.new ≡ disk.old) }
         ensures stands { is_down result ≡ false → StandsOn D.Storage self.new.journal disk.new }
 
@@ -165,6 +169,7 @@ impl DurableTree {
             → wanted_of self.old.journal (length (entry_bytes change.now)) ≤ room_of self.old.journal) }
         ensures tried { is_down result ≡ true → (is_done self.old.tree change.now ≡ true)
             × (wanted_of self.old.journal (length (entry_bytes change.now)) ≤ room_of self.old.journal) }
+        ensures tried_formed { is_down result ≡ true → IsEntry (entry_bytes change.now) change.now }
         ensures jukebox { IfJukebox result (λ room wanted. (is_done self.old.tree change.now ≡ true) × (room ≡ room_of self.old.journal)
             × (wanted ≡ wanted_of self.old.journal (length (entry_bytes change.now))) × (room < wanted)) }
         ensures put_off { IfPutOff result ((self.new.tree ≡ self.old.tree) × SameButSpare self.old.journal self.new.journal × (disk.new ≡ disk.old)) }
@@ -241,13 +246,43 @@ impl DurableTree {
     {
         self.journal.commit(disk)
     }
+
+    /// Closes all open areas of the journal, and drops its pending entries: the newer area first, then the older, with a sync after each.
+    /// The tree stays. Where no area is open no call of the disk is made. No memory is needed. The journal is not down.
+    ///
+    /// `Failed` only where the disk's count of faults rose; the journal is down then, and is to be read anew. A crash at any moment leaves
+    /// the entries of both areas, those of the older, or none.
+    pub fn wipe<D: Disk>(&mut self, disk: &mut D) -> Result<(), Failed>
+        requires up { self.old.journal.down ≡ false }
+        requires stands { StandsOn D.Storage self.old.journal disk.old }
+
+        ensures tree { self.new.tree ≡ self.old.tree }
+        ensures ok { OnOk result (SameButSpare (wiped self.old.journal) self.new.journal) }
+        ensures holds { OnOk result (BothTold (λ old new. (older newer : List (List ℕ)) → StandsFor self.old.journal old older newer
+            → StandsFor self.new.journal new [] []) (D.image disk.old) (D.image disk.new)) }
+        ensures stands { OnOk result (StandsOn D.Storage self.new.journal disk.new) }
+
+        ensures any_moment { WhereTold (D.image disk.old) (λ image. (older newer : List (List ℕ)) → StandsFor self.old.journal image older newer
+            → LeavesOnly D.Storage disk.old disk.new (BesideObjects D.Storage disk.old
+            (λ left. Reads self.old.journal older newer left ⊎ Reads (without_newer self.old.journal) [] older left ⊎ Reads (wiped self.old.journal) [] [] left))) }
+
+        ensures quiet { self.old.journal.newer ≡ None → disk.new ≡ disk.old }
+        ensures down { self.new.journal.down ≡ is_err result }
+        ensures beside { SameCloud D.Storage disk.old disk.new }
+        ensures size { D.bytes_of disk.new ≡ D.bytes_of disk.old }
+        ensures cause { Counts (D.disk_faults disk.old) (D.disk_faults disk.new) (IsErr result) }
+        ensures cloud { D.cloud_faults disk.new ≡ D.cloud_faults disk.old }
+    {
+        self.journal.wipe(disk)
+    }
 }
 
 /// Writes the entry of a change into a buffer of its length.
 fn encode(entry: &mut Vec<u8>, change: &Change) -> Result<(), NoMemory>
     requires changes { IsTrue (is_change change.now.call) }
     requires small { length (entry_bytes change.now) < 2 ^ 32 }
-    ensures { OnOk result (entry.new.items ≡ entry_bytes change.now) }
+    ensures written { OnOk result (entry.new.items ≡ entry_bytes change.now) }
+    ensures formed { OnOk result (IsEntry (entry_bytes change.now) change.now) }
 {
     let length = entry_length(change) as usize;
     entry.clear();

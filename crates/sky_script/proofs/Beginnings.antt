@@ -7,7 +7,7 @@ use Rattle.sky_base.specs.declared.moment.Moment.{Moment}
 use Rattle.sky_xdr.specs.Encoding.{AreBytes, uint}
 use Rattle.sky_xdr.specs.Reading.{word}
 use Rattle.sky_xdr.proofs.Numbers.{uint_same, AreBytes-drop, AreBytes-take, word_fits}
-use Rattle.sky_script.specs.Frame.{InFrame, Begin, Bytes, Close, SetMoment, Stat, End, header, Parts, parts_of, frame, in_frame, is_header, IsInFrame, second, session_count, payload_limit}
+use Rattle.sky_script.specs.Frame.{InFrame, Begin, Bytes, Close, SetMoment, Stat, Restart, RestartWithoutJournal, End, header, Parts, parts_of, frame, in_frame, is_header, IsInFrame, second, session_count, payload_limit}
 use Rattle.sky_script.specs.Beginning.{IsRefused, refused_header, refused_moment, IsCutShort, within_header, within_payload, Begins, with_frame, with_refused, cut_short, HasOneBeginning}
 use Rattle.sky_script.proofs.Headers.{header_split, moment_of, moment_split, moment_fits}
 use Rattle.sky_script.proofs.FrameLaws.{known_fits, in_frame_known, header_same, length-header, length-moment, frame-parts, frame_same, prefixes_same}
@@ -49,6 +49,8 @@ moment_only (Bytes s p) formed is = absurd (omega arith)
 moment_only (Close s) formed is = absurd (omega arith)
 moment_only (SetMoment at) formed is = (at, refl)
 moment_only Stat formed is = absurd (omega arith)
+moment_only Restart formed is = absurd (omega arith)
+moment_only RestartWithoutJournal formed is = absurd (omega arith)
 moment_only End formed is = absurd (omega arith)
 
 -- a moment that may go in isn't late
@@ -65,6 +67,8 @@ late_not_frame (Bytes s b) at x y formed p q late k e = absurd (omega (arith, k)
 late_not_frame (Close s) at x y formed p q late k e = absurd (omega (arith, k))
 late_not_frame (SetMoment a) at x y formed p q late k e = moment_not_late a at x y formed p q late e
 late_not_frame Stat at x y formed p q late k e = absurd (omega (arith, k))
+late_not_frame Restart at x y formed p q late k e = absurd (omega (arith, k))
+late_not_frame RestartWithoutJournal at x y formed p q late k e = absurd (omega (arith, k))
 late_not_frame End at x y formed p q late k e = absurd (omega (arith, k))
 
 frame_not_head : (f : InFrame) (taken rest others : List ℕ) → IsInFrame f → in_frame f ++ rest ≡ taken ++ others → Head taken → ⊥
@@ -158,6 +162,8 @@ data Known (kind session len : ℕ) : Type 0 where
   close : kind ≡ 3 → session < session_count → len ≡ 0 → Known kind session len
   moment_at : kind ≡ 4 → session ≡ 0 → len ≡ 8 → Known kind session len
   stat : kind ≡ 16 → session ≡ 0 → len ≡ 0 → Known kind session len
+  restart : kind ≡ 20 → session ≡ 0 → len ≡ 0 → Known kind session len
+  restart_without_journal : kind ≡ 21 → session ≡ 0 → len ≡ 0 → Known kind session len
   end : kind ≡ 99 → session ≡ 0 → len ≡ 0 → Known kind session len
 
 known_one : (k s l : ℕ) → k ≡ 1 → is_header k s l ≡ true → (s < session_count) × (l ≡ 0)
@@ -175,8 +181,15 @@ known_four k s l is known = grind (arith, nat_tests)
 known_sixteen : (k s l : ℕ) → k ≡ 16 → is_header k s l ≡ true → (s ≡ 0) × (l ≡ 0)
 known_sixteen k s l is known = grind (arith, nat_tests)
 
-known_other : (k s l : ℕ) → (k ≡ 1 → ⊥) → (k ≡ 2 → ⊥) → (k ≡ 3 → ⊥) → (k ≡ 4 → ⊥) → (k ≡ 16 → ⊥) → is_header k s l ≡ true → (k ≡ 99) × (s ≡ 0) × (l ≡ 0)
-known_other k s l a b c d f known = grind (arith, nat_tests)
+known_twenty : (k s l : ℕ) → k ≡ 20 → is_header k s l ≡ true → (s ≡ 0) × (l ≡ 0)
+known_twenty k s l is known = grind (arith, nat_tests)
+
+known_twenty_one : (k s l : ℕ) → k ≡ 21 → is_header k s l ≡ true → (s ≡ 0) × (l ≡ 0)
+known_twenty_one k s l is known = grind (arith, nat_tests)
+
+known_other : (k s l : ℕ) → (k ≡ 1 → ⊥) → (k ≡ 2 → ⊥) → (k ≡ 3 → ⊥) → (k ≡ 4 → ⊥) → (k ≡ 16 → ⊥) → (k ≡ 20 → ⊥) → (k ≡ 21 → ⊥)
+    → is_header k s l ≡ true → (k ≡ 99) × (s ≡ 0) × (l ≡ 0)
+known_other k s l a b c d f g h known = grind (arith, nat_tests)
 
 known : (k s l : ℕ) → is_header k s l ≡ true → Known k s l
 known k s l is =
@@ -190,7 +203,13 @@ known k s l is =
             | inl e ↦ let h = known_four k s l e is in moment_at e h.0 h.1
             | inr d ↦ elim (cases_eq k 16) [
               | inl e ↦ let h = known_sixteen k s l e is in stat e h.0 h.1
-              | inr f ↦ let h = known_other k s l a b c d f is in end h.0 h.1 h.2
+              | inr f ↦ elim (cases_eq k 20) [
+                | inl e ↦ let h = known_twenty k s l e is in restart e h.0 h.1
+                | inr g ↦ elim (cases_eq k 21) [
+                  | inl e ↦ let h = known_twenty_one k s l e is in restart_without_journal e h.0 h.1
+                  | inr r ↦ let h = known_other k s l a b c d f g r is in end h.0 h.1 h.2
+                ]
+              ]
             ]
           ]
         ]
@@ -225,6 +244,10 @@ made k s l payload rest fits long (moment_at e zero eight) =
     ]
 made k s l payload rest fits long (stat e zero none) =
     with_frame Stat rest tt (from_parts (parts_of Stat) k s l payload rest e zero (nil_from_length payload (long ∙ none)) long)
+made k s l payload rest fits long (restart e zero none) =
+    with_frame Restart rest tt (from_parts (parts_of Restart) k s l payload rest e zero (nil_from_length payload (long ∙ none)) long)
+made k s l payload rest fits long (restart_without_journal e zero none) =
+    with_frame RestartWithoutJournal rest tt (from_parts (parts_of RestartWithoutJournal) k s l payload rest e zero (nil_from_length payload (long ∙ none)) long)
 made k s l payload rest fits long (end e zero none) =
     with_frame End rest tt (from_parts (parts_of End) k s l payload rest e zero (nil_from_length payload (long ∙ none)) long)
 

@@ -9,7 +9,7 @@ use Rattle.std.proofs.lemmas.List.{length-append, append-nil}
 use Rattle.sky_base.specs.declared.moment.Moment.{Moment}
 use Rattle.sky_xdr.specs.Encoding.{uint}
 use Rattle.sky_xdr.proofs.Numbers.{uint_same, length-uint}
-use Rattle.sky_script.specs.Frame.{InFrame, Begin, Bytes, Close, SetMoment, Stat, End, Parts, header, frame, parts_of, in_frame, is_header, IsInFrame, payload_limit}
+use Rattle.sky_script.specs.Frame.{InFrame, Begin, Bytes, Close, SetMoment, Stat, Restart, RestartWithoutJournal, End, Parts, header, frame, parts_of, in_frame, is_header, IsInFrame, payload_limit}
 
 -- ---- headers
 
@@ -70,6 +70,8 @@ payload_within (Bytes session payload) formed = formed.1
 payload_within (Close session) formed = omega arith
 payload_within (SetMoment at) formed = omega (arith, length-moment at)
 payload_within Stat formed = omega arith
+payload_within Restart formed = omega arith
+payload_within RestartWithoutJournal formed = omega arith
 payload_within End formed = omega arith
 
 -- a frame that may go in has at least 9 bytes and at most 9 + 2^20
@@ -85,6 +87,8 @@ in_frame_known (Bytes session payload) formed = grind (arith, nat_tests, formed.
 in_frame_known (Close session) formed = grind (arith, nat_tests)
 in_frame_known (SetMoment at) formed = rw (length-moment at) refl
 in_frame_known Stat formed = refl
+in_frame_known Restart formed = refl
+in_frame_known RestartWithoutJournal formed = refl
 in_frame_known End formed = refl
 
 -- a frame, taken apart
@@ -122,37 +126,10 @@ same_by_parts (Bytes s p) (Bytes t q) x y i j a = λ k. Bytes (a.session k) (a.p
 same_by_parts (Close s) (Close t) x y i j a = ap Close a.session
 same_by_parts (SetMoment m) (SetMoment n) x y i j a = ap SetMoment (moments_same m n i j a.payload)
 same_by_parts Stat Stat x y i j a = refl
+same_by_parts Restart Restart x y i j a = refl
+same_by_parts RestartWithoutJournal RestartWithoutJournal x y i j a = refl
 same_by_parts End End x y i j a = refl
-same_by_parts (Begin s) (Bytes t q) x y i j a = absurd (omega (arith, a.kind))
-same_by_parts (Begin s) (Close t) x y i j a = absurd (omega (arith, a.kind))
-same_by_parts (Begin s) (SetMoment n) x y i j a = absurd (omega (arith, a.kind))
-same_by_parts (Begin s) Stat x y i j a = absurd (omega (arith, a.kind))
-same_by_parts (Begin s) End x y i j a = absurd (omega (arith, a.kind))
-same_by_parts (Bytes s p) (Begin t) x y i j a = absurd (omega (arith, a.kind))
-same_by_parts (Bytes s p) (Close t) x y i j a = absurd (omega (arith, a.kind))
-same_by_parts (Bytes s p) (SetMoment n) x y i j a = absurd (omega (arith, a.kind))
-same_by_parts (Bytes s p) Stat x y i j a = absurd (omega (arith, a.kind))
-same_by_parts (Bytes s p) End x y i j a = absurd (omega (arith, a.kind))
-same_by_parts (Close s) (Begin t) x y i j a = absurd (omega (arith, a.kind))
-same_by_parts (Close s) (Bytes t q) x y i j a = absurd (omega (arith, a.kind))
-same_by_parts (Close s) (SetMoment n) x y i j a = absurd (omega (arith, a.kind))
-same_by_parts (Close s) Stat x y i j a = absurd (omega (arith, a.kind))
-same_by_parts (Close s) End x y i j a = absurd (omega (arith, a.kind))
-same_by_parts (SetMoment m) (Begin t) x y i j a = absurd (omega (arith, a.kind))
-same_by_parts (SetMoment m) (Bytes t q) x y i j a = absurd (omega (arith, a.kind))
-same_by_parts (SetMoment m) (Close t) x y i j a = absurd (omega (arith, a.kind))
-same_by_parts (SetMoment m) Stat x y i j a = absurd (omega (arith, a.kind))
-same_by_parts (SetMoment m) End x y i j a = absurd (omega (arith, a.kind))
-same_by_parts Stat (Begin t) x y i j a = absurd (omega (arith, a.kind))
-same_by_parts Stat (Bytes t q) x y i j a = absurd (omega (arith, a.kind))
-same_by_parts Stat (Close t) x y i j a = absurd (omega (arith, a.kind))
-same_by_parts Stat (SetMoment n) x y i j a = absurd (omega (arith, a.kind))
-same_by_parts Stat End x y i j a = absurd (omega (arith, a.kind))
-same_by_parts End (Begin t) x y i j a = absurd (omega (arith, a.kind))
-same_by_parts End (Bytes t q) x y i j a = absurd (omega (arith, a.kind))
-same_by_parts End (Close t) x y i j a = absurd (omega (arith, a.kind))
-same_by_parts End (SetMoment n) x y i j a = absurd (omega (arith, a.kind))
-same_by_parts End Stat x y i j a = absurd (omega (arith, a.kind))
+same_by_parts f g x y i j a = absurd (omega (arith, a.kind))
 
 -- one encoding stands for one frame
 pub frame_same : (f g : InFrame) (x y : List ℕ) → IsInFrame f → IsInFrame g → in_frame f ++ x ≡ in_frame g ++ y → (f ≡ g) × (x ≡ y)

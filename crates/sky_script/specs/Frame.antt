@@ -48,6 +48,10 @@ pub data InFrame : Type 0 where
   SetMoment : (at : Moment) → InFrame
   -- 16: what the proxy has, as numbers
   Stat : InFrame
+  -- 20: the proxy is stopped, and opened again
+  Restart : InFrame
+  -- 21: the same, and what its journal has is given up
+  RestartWithoutJournal : InFrame
   -- 99: the end of the recording
   End : InFrame
 
@@ -58,6 +62,8 @@ parts_of (Bytes session payload) = record { kind = 2; session = session; payload
 parts_of (Close session) = record { kind = 3; session = session; payload = [] }
 parts_of (SetMoment at) = record { kind = 4; session = 0; payload = uint at.seconds ++ uint at.nanos }
 parts_of Stat = record { kind = 16; session = 0; payload = [] }
+parts_of Restart = record { kind = 20; session = 0; payload = [] }
+parts_of RestartWithoutJournal = record { kind = 21; session = 0; payload = [] }
 parts_of End = record { kind = 99; session = 0; payload = [] }
 
 abbrev pub in_frame : InFrame → List ℕ
@@ -74,7 +80,9 @@ is_header kind session len =
     else (if kind == 3 then nat_lt session session_count && (len == 0)
     else (if kind == 4 then (session == 0) && (len == 8)
     else (if kind == 16 then (session == 0) && (len == 0)
-    else (if kind == 99 then (session == 0) && (len == 0) else false)))))
+    else (if kind == 20 then (session == 0) && (len == 0)
+    else (if kind == 21 then (session == 0) && (len == 0)
+    else (if kind == 99 then (session == 0) && (len == 0) else false)))))))
 
 -- a frame that may go in
 abbrev pub IsInFrame : InFrame → Type 0
@@ -83,6 +91,8 @@ IsInFrame (Bytes session payload) = (session < session_count) × (length payload
 IsInFrame (Close session) = session < session_count
 IsInFrame (SetMoment at) = (at.seconds < 2 ^ 32) × (at.nanos < second)
 IsInFrame Stat = Unit {0}
+IsInFrame Restart = Unit {0}
+IsInFrame RestartWithoutJournal = Unit {0}
 IsInFrame End = Unit {0}
 
 -- ---- what comes out

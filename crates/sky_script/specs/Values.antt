@@ -3,7 +3,7 @@ use Rattle.sky_outside.specs.declared.whole.FillFault.{FillFault}
 use Rattle.sky_outside.specs.declared.whole.FillFault.TheVariants as fill
 use Rattle.sky_script.specs.Frame as frames
 use Rattle.sky_script.specs.declared.frame.Frame.{Frame}
-use Rattle.sky_script.specs.declared.frame.Frame.TheVariants.{Begin, Bytes, Close, SetMoment, Stat, End}
+use Rattle.sky_script.specs.declared.frame.Frame.TheVariants.{Begin, Bytes, Close, SetMoment, Stat, Restart, RestartWithoutJournal, End}
 use Rattle.sky_script.specs.declared.frame.OutFrame.{OutFrame}
 use Rattle.sky_script.specs.declared.frame.OutFrame.TheVariants.{Reply, Closed, Counted, Opened, Ended}
 use Rattle.sky_script.specs.declared.reading.FrameFault.{FrameFault}
@@ -16,6 +16,8 @@ frame_of (Bytes session payload) = frames.Bytes session payload.now
 frame_of (Close session) = frames.Close session
 frame_of (SetMoment at) = frames.SetMoment at
 frame_of Stat = frames.Stat
+frame_of Restart = frames.Restart
+frame_of RestartWithoutJournal = frames.RestartWithoutJournal
 frame_of End = frames.End
 
 -- the frame that comes out

@@ -20,6 +20,10 @@ pub enum Frame<'a> {
     SetMoment(Moment),
     /// Kind 16: what does the proxy have, as numbers?
     Stat,
+    /// Kind 20: the proxy is stopped, and opened again.
+    Restart,
+    /// Kind 21: the same, and what its journal has is given up.
+    RestartWithoutJournal,
     /// Kind 99: the recording ends.
     End,
 }
@@ -39,6 +43,8 @@ impl Frame<'_> {
             Frame::Begin { session: _ } => 9,
             Frame::Close { session: _ } => 9,
             Frame::Stat => 9,
+            Frame::Restart => 9,
+            Frame::RestartWithoutJournal => 9,
             Frame::End => 9,
         }
     }

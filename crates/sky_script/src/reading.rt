@@ -104,7 +104,7 @@ fn is_header(header: &Header) -> bool
         1 | 3 => header.session < SESSION_COUNT && header.length == 0,
         2 => header.session < SESSION_COUNT && header.length <= PAYLOAD_LIMIT,
         4 => header.session == 0 && header.length == 8,
-        16 | 99 => header.session == 0 && header.length == 0,
+        16 | 20 | 21 | 99 => header.session == 0 && header.length == 0,
         _ => false,
     }
 }
@@ -173,6 +173,8 @@ fn frame_with(header: Header, payload: &[u8]) -> Result<Frame<'_>, FrameFault>
         3 => Ok(Frame::Close { session }),
         4 => Ok(Frame::SetMoment(moment_in(payload)?)),
         16 => Ok(Frame::Stat),
+        20 => Ok(Frame::Restart),
+        21 => Ok(Frame::RestartWithoutJournal),
         _ => Ok(Frame::End),
     }
 }

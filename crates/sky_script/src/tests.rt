@@ -40,6 +40,8 @@ fn parts_of<'a>(frame: &Frame<'a>) -> (u8, u32, u32, &'a [u8]) {
         Frame::Close { session } => (3, session, 0, &[]),
         Frame::SetMoment(Moment { seconds, nanos }) => (4, seconds, nanos, &[]),
         Frame::Stat => (16, 0, 0, &[]),
+        Frame::Restart => (20, 0, 0, &[]),
+        Frame::RestartWithoutJournal => (21, 0, 0, &[]),
         Frame::End => (99, 0, 0, &[]),
     }
 }
@@ -53,6 +55,8 @@ fn frames_of_each_kind_are_read_byte_by_byte(rt: HostRuntime) -> Result<(), Fail
         \x03\0\0\0\x05\0\0\0\0\
         \x04\0\0\0\0\0\0\0\x08\0\0\0\x07\x3b\x9a\xc9\xff\
         \x10\0\0\0\0\0\0\0\0\
+        \x14\0\0\0\0\0\0\0\0\
+        \x15\0\0\0\0\0\0\0\0\
         \x63\0\0\0\0\0\0\0\0M";
     let mut source = source_of(alloc, bytes, &[])?;
     let mut buf = FrameBuf::new(alloc).map_err(|_| "no memory")?;
@@ -63,6 +67,8 @@ fn frames_of_each_kind_are_read_byte_by_byte(rt: HostRuntime) -> Result<(), Fail
         (3, 5, 0, b"".as_slice()),
         (4, 7, 999_999_999, b"".as_slice()),
         (16, 0, 0, b"".as_slice()),
+        (20, 0, 0, b"".as_slice()),
+        (21, 0, 0, b"".as_slice()),
         (99, 0, 0, b"".as_slice()),
     ] {
         let frame = read_frame(&mut source, &mut buf).map_err(|_| "no frame")?;
@@ -112,6 +118,8 @@ fn what_is_no_frame_is_refused_and_nothing_is_read_past_it(rt: HostRuntime) -> R
         b"\x04\0\0\0\0\0\0\0\x07MM".as_slice(),
         b"\x10\0\0\0\x01\0\0\0\0MM".as_slice(),
         b"\x10\0\0\0\0\0\0\0\x01MM".as_slice(),
+        b"\x14\0\0\0\x01\0\0\0\0MM".as_slice(),
+        b"\x14\0\0\0\0\0\0\0\x01MM".as_slice(),
         b"\x63\0\0\0\x01\0\0\0\0MM".as_slice(),
         b"\x04\0\0\0\0\0\0\0\x08\0\0\0\0\x3b\x9a\xca\0MM".as_slice(),
     ] {

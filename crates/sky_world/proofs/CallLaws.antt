@@ -26,7 +26,8 @@ use Rattle.sky_outside.specs.declared.storage.Storage.{Ghosts}
 use Rattle.sky_results.specs.Answers.{answer_bytes}
 use Rattle.sky_rpc.specs.Reply.{Success, reply_record}
 use Rattle.sky_world.specs.Carried.{Carries, CarriesDown, IsServing, Stays, entries_brought}
-use Rattle.sky_world.specs.Disk.{IsKeptOn, LeavesPrefix, WentOn}
+use Rattle.sky_world.specs.Disk.{AreStorable, IsKeptOn, LeavesPrefix, WentOn}
+use Rattle.sky_sound.specs.Entries.{IsStorable}
 use Rattle.sky_world.specs.Feeding.{AnswersCall, Called, FailsCall, by_procedure, without_room, without_memory}
 use Rattle.sky_world.specs.Meaning.{State, Kept, called_by, kept_after, journal_after_call, lacks_room, makes_stable, service_of, with_kept}
 use Rattle.sky_world.specs.Service.{answer_to, bare_answer, reply_without_memory, takes_some}
@@ -34,6 +35,7 @@ use Rattle.sky_world.specs.World.{ServiceView, ServesFor}
 use Rattle.sky_world.proofs.AnswerLaws.{called_tree}
 use Rattle.sky_world.proofs.DiskLaws.{went_nowhere}
 use Rattle.sky_world.proofs.KeepLaws.{Moves, kept_on, leaves_prefix, moves_by, went}
+use Rattle.sky_world.proofs.StorableLaws.{storable_by}
 
 -- ---- a change makes nothing stable that is not a change
 
@@ -128,6 +130,10 @@ module _ {S : Type 0} (g : Ghosts S) (s : S) (state : State) (old : ServiceView)
     abbrev after : Kept
     after = kept_after state.kept stated
 
+    -- each change is read from its entry as before, and so is this one, where it is done
+    storable_after : (is_done (last_tree state.kept.history) stated ≡ true → IsStorable stated) → AreStorable after.history.changes
+    storable_after one = storable_by (is_done (last_tree state.kept.history) stated) state.kept.history stated serves.kept.storable one
+
     -- ---- it was carried out
 
     module _ (t : S) (new : ServiceView) (answer : Answer) (carries : Carries g old s change answer new t) where
@@ -147,11 +153,11 @@ module _ {S : Type 0} (g : Ghosts S) (s : S) (state : State) (old : ServiceView)
         tree = carried.tree ∙ procedure_tree (last_tree state.kept.history) state.epoch stated.cred stated.call state.moment ∙ sym (called_tree state.kept.history stated.cred stated.call state.moment);
         moment = carried.moment;
         journal = journal_is;
-        kept = kept_on g s t state.kept after _ (moves stated) serves.kept new.journal new.journal.spare journal_is carried.is carried.serving.stands (unspare_both state.kept.journal new.journal old.journal.spare _ (g.image s) (g.image t) carried.holds);
+        kept = kept_on g s t state.kept after _ (moves stated) serves.kept (storable_after carried.storable) new.journal new.journal.spare journal_is carried.is carried.serving.stands (unspare_both state.kept.journal new.journal old.journal.spare _ (g.image s) (g.image t) carried.holds);
       }
 
       went_after : WentOn g s t state.kept.mark after
-      went_after = went g s t state.kept after _ (moves stated) serves.kept new.journal (unspare g s t state.kept.journal old.journal.spare _ carried.leaves) (unspare_both state.kept.journal new.journal old.journal.spare _ (g.image s) (g.image t) carried.holds) carried.beside
+      went_after = went g s t state.kept after _ (moves stated) serves.kept (storable_after carried.storable) new.journal (unspare g s t state.kept.journal old.journal.spare _ carried.leaves) (unspare_both state.kept.journal new.journal old.journal.spare _ (g.image s) (g.image t) carried.holds) carried.beside
 
       pub answers_done : (xid number : ℕ) (reply : List ℕ) → reply ≡ reply_record xid (Success (answer_bytes answer))
           → (kept : Kept) × Called state xid number change.cred change.call reply kept × ServesFor g new t (with_kept state kept) × WentOn g s t state.kept.mark kept
@@ -171,7 +177,7 @@ module _ {S : Type 0} (g : Ghosts S) (s : S) (state : State) (old : ServiceView)
         reply_record xid (Success (answer_bytes (answer_to (service_of state) change.cred change.call))),
         after,
         by_procedure failed.room refl refl,
-        leaves_prefix g s t state.kept after _ (moves stated) serves.kept (unspare g s t state.kept.journal old.journal.spare _ failed.leaves),
+        leaves_prefix g s t state.kept after _ (moves stated) serves.kept (storable_after failed.storable) (unspare g s t state.kept.journal old.journal.spare _ failed.leaves),
       )
 
     -- ---- all stays

@@ -12,7 +12,7 @@ use Rattle.sky_calls.specs.Stable.{is_stable_call}
 use Rattle.sky_calls.specs.declared.outcome.Outcome.{Outcome}
 use Rattle.sky_calls.specs.declared.outcome.Outcome.TheVariants.{Done, Jukebox, Down, Memory}
 use Rattle.sky_calls.proofs.Carried.{procedure_tree}
-use Rattle.sky_entry.specs.Entry.{entry_bytes}
+use Rattle.sky_entry.specs.Entry.{IsEntry, entry_bytes}
 use Rattle.sky_journal.specs.Journal.{JournalView, IsJournal, Reads, SameButSpare, StandsFor, StandsOn, after_commit, area_with, room_of, wanted_of}
 use Rattle.sky_journal.specs.declared.open_area.OpenArea.{OpenArea}
 use Rattle.sky_journal.proofs.Reading.{reads}
@@ -39,8 +39,10 @@ use Rattle.sky_world.specs.Carried.{Becomes, Carries, CarriesDown, IsServing, St
 use Rattle.sky_world.specs.Meaning.{journal_after_call, lacks_room, makes_stable}
 use Rattle.sky_world.specs.Service.{takes_some}
 use Rattle.sky_world.specs.World.{ServiceView}
+use Rattle.sky_sound.specs.Entries.{IsStorable}
 use Rattle.sky_world.proofs.CallLaws.{done_makes, change_makes}
 use Rattle.sky_world.proofs.FitLaws.{answer_fits}
+use Rattle.sky_world.proofs.StorableLaws.{storable_of}
 
 either : (b : Bool) → (b ≡ true) ⊎ (b ≡ false)
 either true = inl refl
@@ -118,6 +120,10 @@ procedure_committed t epoch cred c moment = committed_is t (tree_after t cred c 
 not_done : (tree : Tree) (change : Change) → is_change change.call ≡ false → is_done tree change ≡ false
 not_done tree change e = rw e refl
 
+-- a change that is not done need not be read
+none_done : (b : Bool) (c : Change) → b ≡ false → b ≡ true → IsStorable c
+none_done b c refused done = absurd (true≢false (sym done ∙ refused))
+
 module _ {S : Type 0} (g : Ghosts S) where
   -- where the disk is not called a crash leaves the entries from before
   waits : (s : S) (j : JournalView) (more : List (List ℕ)) → IsJournal j → StandsOn g j s → LeavesOldOrMore g s s j more
@@ -151,8 +157,8 @@ module _ {S : Type 0} (g : Ghosts S) where
     carried_done : (answer : Answer) → answer ≡ (procedure old.tree old.epoch change.cred change.call change.moment).answer → new.tree ≡ tree_after_change old.tree change → is_done old.tree change ≡ true
         → SameButSpare (journal_after (is_stable_call change.call) old.journal (entry_bytes change)) new.journal
         → HoldsMore g s t old.journal new.journal (entries_kept (is_stable_call change.call) old.journal (entry_bytes change)) → StandsOn g new.journal t
-        → wanted_of old.journal (length (entry_bytes change)) ≤ room_of old.journal → new.journal.down ≡ false → Carries g old s change answer new t
-    carried_done answer by tree done journal holds stands room down = record {
+        → wanted_of old.journal (length (entry_bytes change)) ≤ room_of old.journal → IsEntry (entry_bytes change) change → new.journal.down ≡ false → Carries g old s change answer new t
+    carried_done answer by tree done journal holds stands room formed down = record {
       answer_is = by;
       fits = fits_in answer by tree;
       room = no_room (is_done old.tree change) (wanted_of old.journal (length (entry_bytes change))) (room_of old.journal) room;
@@ -170,6 +176,7 @@ module _ {S : Type 0} (g : Ghosts S) where
       };
       leaves = rw done (brought_leaves (is_stable_call change.call) refl);
       holds = rw done holds;
+      storable = λ _. storable_of change formed;
       beside = beside;
     }
 
@@ -190,6 +197,7 @@ module _ {S : Type 0} (g : Ghosts S) where
           serving = record { up = record { area = subst (λ (j : JournalView). IsSome j.newer) (sym same.1) serving.up.area; up = down }; stands = stands };
           leaves = rw (done, makes_none) (waits_at s t old.journal [] same.2 was serving.stands);
           holds = rw (done, makes_none) (subst (λ (d : S). HoldsMore g s d old.journal new.journal []) (sym same.2) (subst (λ (j : JournalView). HoldsMore g s s old.journal j []) (sym same.1) (holds_none old.journal (g.image s))));
+          storable = none_done (is_done old.tree change) change done;
           beside = beside;
         }
 
@@ -198,25 +206,27 @@ module _ {S : Type 0} (g : Ghosts S) where
         → IfDone o (λ a. is_done old.tree change ≡ true → HoldsMore g s t old.journal new.journal (entries_kept (is_stable_call change.call) old.journal (entry_bytes change)))
         → (is_down o ≡ false → StandsOn g new.journal t)
         → IfDone o (λ a. is_done old.tree change ≡ true → wanted_of old.journal (length (entry_bytes change)) ≤ room_of old.journal)
-        → (is_down o ≡ true → (is_done old.tree change ≡ true) × (wanted_of old.journal (length (entry_bytes change)) ≤ room_of old.journal))
+        → IfDone o (λ a. is_done old.tree change ≡ true → IsEntry (entry_bytes change) change)
+        → (is_down o ≡ true → (is_done old.tree change ≡ true) × (wanted_of old.journal (length (entry_bytes change)) ≤ room_of old.journal)) → (is_down o ≡ true → IsEntry (entry_bytes change) change)
         → IfJukebox o (λ room wanted. (is_done old.tree change ≡ true) × (room ≡ room_of old.journal) × (wanted ≡ wanted_of old.journal (length (entry_bytes change))) × (room < wanted))
         → IfPutOff o ((new.tree ≡ old.tree) × SameButSpare old.journal new.journal × (t ≡ s))
         → (o ≡ Memory → is_done old.tree change ≡ true) → new.journal.down ≡ is_down o → Becomes g old s change o new t
-    becomes_change (Done answer) by tree journal holds stands room tried jukebox put_off memory down = elim (either (is_done old.tree change)) [
-      | inl done ↦ carried_done answer by tree done (journal done) (holds done) (stands refl) (room done) down
+    becomes_change (Done answer) by tree journal holds stands room formed tried tried_formed jukebox put_off memory down = elim (either (is_done old.tree change)) [
+      | inl done ↦ carried_done answer by tree done (journal done) (holds done) (stands refl) (room done) (formed done) down
       | inr done ↦ carried_refused answer by tree done (stands refl) down
     ]
-    becomes_change (Jukebox room wanted) by tree journal holds stands room_is tried jukebox put_off memory down = (
+    becomes_change (Jukebox room wanted) by tree journal holds stands room_is formed tried tried_formed jukebox put_off memory down = (
       some_room (is_done old.tree change) (wanted_of old.journal (length (entry_bytes change))) (room_of old.journal) jukebox.0 (omega (arith, jukebox.1, jukebox.2, jukebox.3)),
       record { tree = put_off.0; epoch = epoch; moment = moment; journal = put_off.1; disk = put_off.2 },
     )
-    becomes_change Down by tree journal holds stands room tried jukebox put_off memory down =
+    becomes_change Down by tree journal holds stands room formed tried tried_formed jukebox put_off memory down =
         let t = tried refl in
         record {
           room = no_room (is_done old.tree change) (wanted_of old.journal (length (entry_bytes change))) (room_of old.journal) t.1;
           leaves = rw t.0 (brought_leaves (is_stable_call change.call) refl);
+          storable = λ _. storable_of change (tried_formed refl);
         }
-    becomes_change Memory by tree journal holds stands room tried jukebox put_off memory down = (
+    becomes_change Memory by tree journal holds stands room formed tried tried_formed jukebox put_off memory down = (
       or_second (takes_memory old.tree change.cred change.call) (is_done old.tree change) (memory refl),
       record { tree = put_off.0; epoch = epoch; moment = moment; journal = put_off.1; disk = put_off.2 },
     )
@@ -250,6 +260,7 @@ module _ {S : Type 0} (g : Ghosts S) where
           serving = record { up = record { area = subst (λ (j : JournalView). IsSome j.newer) (sym journal) (map_some old.journal.newer old.journal.pending serving.up.area); up = down }; stands = stands };
           leaves = rw (done, makes) leaves;
           holds = rw (done, makes) holds;
+          storable = none_done (is_done old.tree change) change done;
           beside = beside;
         }
 
@@ -273,6 +284,7 @@ module _ {S : Type 0} (g : Ghosts S) where
           });
           leaves = rw (done, makes) (waits_at s t old.journal [] disk was serving.stands);
           holds = rw (done, makes) (subst (λ (d : S). HoldsMore g s d old.journal new.journal []) (sym disk) (subst (λ (j : JournalView). HoldsMore g s s old.journal j []) (sym journal) (holds_none old.journal (g.image s))));
+          storable = none_done (is_done old.tree change) change done;
           beside = subst (λ (d : S). SameCloud g s d) (sym disk) (record { objects = refl; standing = refl });
         }
 
@@ -281,4 +293,4 @@ module _ {S : Type 0} (g : Ghosts S) where
     becomes_down answer by committed leaves =
         let makes : makes_stable old.tree change.cred change.call ≡ true = sym (procedure_committed old.tree old.epoch change.cred change.call change.moment) ∙ ap (λ (a : Answer). has_committed a) (sym by) ∙ committed in
         let done = not_done old.tree change reading in
-        record { room = rw done refl; leaves = rw (done, makes) leaves }
+        record { room = rw done refl; leaves = rw (done, makes) leaves; storable = none_done (is_done old.tree change) change done }

@@ -13,8 +13,10 @@ use Rattle.sky_outside.specs.Told.{BothTold, WhereTold}
 use Rattle.sky_outside.specs.declared.storage.Storage.{Ghosts}
 use Rattle.sky_outside.proofs.MomentLaws.{LeavesOnly-disk_start, LeavesOnly-disk_then, only_read}
 use Rattle.sky_outside.proofs.ToldLaws.{WhereTold-at, WhereTold-from}
-use Rattle.sky_world.specs.Disk.{HoldsPrefix, IsKeptOn, LeavesPrefix, ReadsAsPrefix, WentOn, entries_behind, entries_to}
-use Rattle.sky_world.specs.Meaning.{Kept}
+use Rattle.sky_sound.specs.Entries.{IsStorable}
+use Rattle.sky_world.specs.Disk.{AreStorable, HasKept, HoldsPrefix, IsKeptOn, LeavesPrefix, ReadsAsPrefix, WentOn, entries_behind, entries_to}
+use Rattle.sky_world.specs.Meaning.{Kept, cut_to}
+use Rattle.sky_world.proofs.StorableLaws.{all_take}
 
 -- ---- what is kept goes on
 
@@ -38,12 +40,16 @@ extends_then a b c x y = record {
   size = y.size ∙ x.size;
 }
 
--- the first entries stay the same
+-- the first changes stay the same
+pub changes_to_same : (kept later : Kept) → (x : Extends kept later) → (n : ℕ) → n ≤ history_length kept.history → (cut_to n later.history).changes ≡ (cut_to n kept.history).changes
+changes_to_same kept later x n le =
+    ap (λ (b : ℕ). take (n - b) later.history.changes) x.before
+    ∙ ap (λ (cs : List Change). take (n - kept.history.before) cs) x.changes
+    ∙ take-append-le (n - kept.history.before) kept.history.changes x.more (omega arith)
+
+-- and so do their entries
 pub entries_to_same : (kept later : Kept) → (x : Extends kept later) → (n : ℕ) → n ≤ history_length kept.history → entries_to later.history n ≡ entries_to kept.history n
-entries_to_same kept later x n le =
-    ap (λ (b : ℕ). map entry_bytes (take (n - b) later.history.changes)) x.before
-    ∙ ap (λ (cs : List Change). map entry_bytes (take (n - kept.history.before) cs)) x.changes
-    ∙ ap (λ (cs : List Change). map entry_bytes cs) (take-append-le (n - kept.history.before) kept.history.changes x.more (omega arith))
+entries_to_same kept later x n le = ap (λ (cs : List Change). map entry_bytes cs) (changes_to_same kept later x n le)
 
 -- a history does not get shorter
 pub longer : (kept later : Kept) → Extends kept later → history_length kept.history ≤ history_length later.history
@@ -63,7 +69,17 @@ prefix_on kept later x n image le is =
     subst (λ (v : ℕ). ReadsAs v later.journal.size later.history.before (numbered later.history.before es) image) (sym x.volume) third
 
 pub holds_on : (kept later : Kept) → Extends kept later → (mark least : ℕ) (image : List ℕ) → least ≤ mark → HoldsPrefix mark kept image → HoldsPrefix least later image
-holds_on kept later x mark least image le h = (h.0, omega (arith, le, h.1), omega (arith, h.2, longer kept later x), prefix_on kept later x h.0 image h.2 h.3)
+holds_on kept later x mark least image le h = (
+  h.0,
+  omega (arith, le, h.1),
+  omega (arith, h.2, longer kept later x),
+  prefix_on kept later x h.0 image h.2 h.3,
+  subst AreStorable (sym (changes_to_same kept later x h.0 h.2)) h.4,
+)
+
+-- the changes up to the mark, where each can be read
+pub storable_to : (kept : Kept) (n : ℕ) → AreStorable kept.history.changes → AreStorable (cut_to n kept.history).changes
+storable_to kept n all = all_take IsStorable (n - kept.history.before) kept.history.changes all
 
 -- ---- calls one after the other
 
@@ -83,6 +99,13 @@ both_then None (Some y) c p q = absurd p
 both_then (Some x) None c p q = absurd p
 both_then (Some x) (Some y) None p q = absurd q
 both_then (Some x) (Some y) (Some z) p q = tt
+
+-- what has what is kept reads as the prefix up to the mark
+pub read_prefix : (kept : Kept) → IsJournal kept.journal → (image : List ℕ) → HasKept kept image → ReadsAsPrefix kept kept.mark image
+read_prefix kept is image has =
+    let list : entries kept.journal has.older has.newer ≡ numbered kept.history.before (entries_to kept.history kept.mark) =
+    ap (λ (n : List (List ℕ)). entries kept.journal has.older n) (sym (append-nil has.newer)) ∙ has.numbers [] ∙ ap (λ (n : List (List ℕ)). numbered kept.history.before n) (append-nil (entries_to kept.history kept.mark)) in
+    rw (← list, ← has.base) (reads kept.journal image has.older has.newer is has.laid)
 
 module _ {S : Type 0} (g : Ghosts S) where
   -- it holds for what is kept later, and for a mark that is lower
@@ -123,11 +146,7 @@ module _ {S : Type 0} (g : Ghosts S) where
   -- ---- what stands on the disk is the prefix up to the mark
 
   pub read_is_prefix : (kept : Kept) (s : S) → IsKeptOn g kept s → (read : List ℕ) → g.image s ≡ Some read → ReadsAsPrefix kept kept.mark read
-  read_is_prefix kept s on read is =
-      let stands = WhereTold-at (g.image s) (λ r. StandsFor kept.journal r on.older on.newer) read is on.laid in
-      let list : entries kept.journal on.older on.newer ≡ numbered kept.history.before (entries_to kept.history kept.mark) =
-      ap (λ (n : List (List ℕ)). entries kept.journal on.older n) (sym (append-nil on.newer)) ∙ on.numbers [] ∙ ap (λ (n : List (List ℕ)). numbered kept.history.before n) (append-nil (entries_to kept.history kept.mark)) in
-      rw (← list, ← on.base) (reads kept.journal read on.older on.newer on.is stands)
+  read_is_prefix kept s on read is = read_prefix kept on.is read (WhereTold-at (g.image s) (HasKept kept) read is on.has)
 
   pub left_is_prefix : (kept : Kept) (s : S) → IsKeptOn g kept s → (image : List ℕ) → WhereTold (g.image s) (λ read. g.may_leave s image → ReadsAsPrefix kept kept.mark image)
   left_is_prefix kept s on image =
@@ -140,7 +159,7 @@ module _ {S : Type 0} (g : Ghosts S) where
     leaves =
         WhereTold-from (g.image s) (λ read. LeavesOnly g s s (BesideObjects g s (HoldsPrefix kept.mark kept)))
         (λ read is. LeavesOnly-disk_start g s (HoldsPrefix kept.mark kept)
-        (λ image left. (kept.mark, omega arith, on.most, WhereTold-at (g.image s) (λ r. g.may_leave s image → ReadsAsPrefix kept kept.mark image) read is (left_is_prefix kept s on image) left)));
+        (λ image left. (kept.mark, omega arith, on.most, WhereTold-at (g.image s) (λ r. g.may_leave s image → ReadsAsPrefix kept kept.mark image) read is (left_is_prefix kept s on image) left, storable_to kept kept.mark on.storable)));
     tells = both_same (g.image s);
     beside = record { objects = refl; standing = refl };
   }

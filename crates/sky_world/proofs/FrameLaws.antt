@@ -1,13 +1,16 @@
 -- Laws of frames: each but the end has a step where streams and payloads are of bytes, and only one; so do lists of frames.
-use Rattle.std.proofs.Common.{◌≡◌, ℕ, Option, Some, None, List, [], ◌∷◌, ◌++◌, inl, inr, refl, sym, subst}
+use Rattle.std.proofs.Common.{◌≡◌, ℕ, Bool, true, false, Option, Some, None, List, [], ◌∷◌, ◌++◌, inl, inr, refl, sym, ap, subst, ◌∙◌}
+use Rattle.std.proofs.lemmas.Bool.{true≢false}
 use Rattle.std.specs.List.{AllByRecursion}
 use Rattle.sky_record.specs.Stream.{Progress, AtHeader, InFragment, Whole, TooLong, Received}
 use Rattle.sky_record.proofs.Reading.{completes_some, completes_one}
 use Rattle.sky_script.specs.Frame as frame
 use Rattle.sky_script.specs.Frame.{InFrame, OutFrame, Counted, session_count}
 use Rattle.sky_world.specs.Bytes.{AreBytes, HasBytes, HasByteStreams, CarriesBytes}
-use Rattle.sky_journal.specs.Journal.{JournalView}
-use Rattle.sky_world.specs.Meaning.{State, Session, Absent, Open, Closed, Memory, Ample, start, stats_of, after_reply, session_at, with_kept, with_session, ended, Then, Closes, StepRecord, StepRecords, StepProgress, StepBytes, Step, Steps, IsStep}
+use Rattle.sky_recover.specs.Opening.{Found}
+use Rattle.sky_world.specs.Laws.{IsForeseen}
+use Rattle.sky_world.specs.Meaning.{State, Session, Absent, Open, Closed, Memory, Ample, start, stats_of, opening, Restarts, as_known, untold, Reopens, covered_found, kept_found, after_reply, session_at, with_kept, with_session, ended, Then, Closes, StepRecord, StepRecords, StepProgress, StepBytes, Step, Steps, IsStep}
+use Rattle.sky_world.proofs.SiteLaws.{step_tells}
 use Rattle.sky_world.proofs.SessionLaws.{all-replicate, all-set, all-at}
 use Rattle.sky_world.proofs.StepLaws.{open_or_not, of_open, of_closed, records_some, progress_some, IsOne, both, passes_one, then_one, records_one, progress_one}
 
@@ -78,15 +81,22 @@ ended_has Absent h = tt
 ended_has (Open stream) h = tt
 ended_has Closed h = tt
 
-pub step_some : (mem : Memory) (old : State) (f : InFrame) → HasByteStreams old → CarriesBytes f → IsStep f → (outs : List OutFrame) × (new : State) × HasByteStreams new × Step mem old f outs new
-step_some mem old (frame.Begin n) h carries is = ([], with_session old n (Open []), all-set HasBytes old.sessions n (Open []) h tt, (refl, refl))
-step_some mem old (frame.Bytes n payload) h carries is = bytes_some mem (session_at old n) n payload old (all-at HasBytes old.sessions n Absent h tt) carries h
-step_some mem old (frame.Close n) h carries is =
+-- at a restart no session has begun
+reopens_some : (known : Found) (s : State) → s.told ≡ true → HasStep (λ (x : State). Restarts x known) s
+reopens_some known s told =
+    (opening known ∷ [], record (start s.told known) { moment = s.moment }, all-replicate HasBytes session_count Absent tt, as_known told (refl, refl))
+
+pub step_some : (mem : Memory) (old : State) (f : InFrame) → HasByteStreams old → CarriesBytes f → IsForeseen old.told f → IsStep f → (outs : List OutFrame) × (new : State) × HasByteStreams new × Step mem old f outs new
+step_some mem old (frame.Begin n) h carries seen is = ([], with_session old n (Open []), all-set HasBytes old.sessions n (Open []) h tt, (refl, refl))
+step_some mem old (frame.Bytes n payload) h carries seen is = bytes_some mem (session_at old n) n payload old (all-at HasBytes old.sessions n Absent h tt) carries h
+step_some mem old (frame.Close n) h carries seen is =
     let x : Session = ended (session_at old n) in
     ([], with_session old n x, all-set HasBytes old.sessions n x h (ended_has (session_at old n) (all-at HasBytes old.sessions n Absent h tt)), (refl, refl))
-step_some mem old (frame.SetMoment at) h carries is = ([], record old { moment = at }, h, (refl, refl))
-step_some mem old frame.Stat h carries is = (Counted (stats_of old) ∷ [], old, h, (refl, refl))
-step_some mem old frame.End h carries is = absurd is
+step_some mem old (frame.SetMoment at) h carries seen is = ([], record old { moment = at }, h, (refl, refl))
+step_some mem old frame.Stat h carries seen is = (Counted (stats_of old) ∷ [], old, h, (refl, refl))
+step_some mem old frame.Restart h carries seen is = reopens_some (kept_found old) old seen
+step_some mem old frame.RestartWithoutJournal h carries seen is = reopens_some (covered_found old) old seen
+step_some mem old frame.End h carries seen is = absurd is
 
 -- ---- and only one
 
@@ -101,27 +111,45 @@ bytes_one (Open stream) n payload s a b t u p q =
 bytes_one Absent n payload s a b t u p q = passes_one s a b t u p q
 bytes_one Closed n payload s a b t u p q = passes_one s a b t u p q
 
-pub step_one : (old : State) (f : InFrame) (outs others : List OutFrame) (new other : State) → Step Ample old f outs new → Step Ample old f others other → (outs ≡ others) × (new ≡ other)
-step_one old (frame.Begin n) a b t u p q = both old a b [] t u (with_session old n (Open [])) p q
-step_one old (frame.Bytes n payload) a b t u p q = bytes_one (session_at old n) n payload old a b t u p q
-step_one old (frame.Close n) a b t u p q = both old a b [] t u (with_session old n (ended (session_at old n))) p q
-step_one old (frame.SetMoment at) a b t u p q = both old a b [] t u (record old { moment = at }) p q
-step_one old frame.Stat a b t u p q = both old a b (Counted (stats_of old) ∷ []) t u old p q
-step_one old frame.End a b t u p q = absurd p
+-- a restart of a site that tells what it has finds one thing
+restarts_one : (known : Found) (s : State) (a b : List OutFrame) (t u : State) → s.told ≡ true → Restarts s known a t → Restarts s known b u → (a ≡ b) × (t ≡ u)
+restarts_one known s a b t u told (as_known x p) (as_known y q) = both s a b (opening known ∷ []) t u (record (start s.told known) { moment = s.moment }) p q
+restarts_one known s a b t u told (untold found silent legal volume same_volume same_size p) other = absurd (true≢false (sym told ∙ silent))
+restarts_one known s a b t u told (as_known x p) (untold found silent legal volume same_volume same_size q) = absurd (true≢false (sym told ∙ silent))
+
+pub step_one : (old : State) (f : InFrame) (outs others : List OutFrame) (new other : State) → IsForeseen old.told f → Step Ample old f outs new → Step Ample old f others other → (outs ≡ others) × (new ≡ other)
+step_one old (frame.Begin n) a b t u seen p q = both old a b [] t u (with_session old n (Open [])) p q
+step_one old (frame.Bytes n payload) a b t u seen p q = bytes_one (session_at old n) n payload old a b t u p q
+step_one old (frame.Close n) a b t u seen p q = both old a b [] t u (with_session old n (ended (session_at old n))) p q
+step_one old (frame.SetMoment at) a b t u seen p q = both old a b [] t u (record old { moment = at }) p q
+step_one old frame.Stat a b t u seen p q = both old a b (Counted (stats_of old) ∷ []) t u old p q
+step_one old frame.Restart a b t u seen p q = restarts_one (kept_found old) old a b t u seen p q
+step_one old frame.RestartWithoutJournal a b t u seen p q = restarts_one (covered_found old) old a b t u seen p q
+step_one old frame.End a b t u seen p q = absurd p
 
 -- ---- frames, one after the other
 
-steps_some : (mem : Memory) (s : State) (frames : List InFrame) → HasByteStreams s → AllByRecursion (λ f. IsStep f × CarriesBytes f) frames → (outs : List OutFrame) × (last : State) × Steps mem s frames outs last
-steps_some mem s [] h all = ([], s, (refl, refl))
-steps_some mem s (f ∷ frames) h all =
-    let first = step_some mem s f h all.0.1 all.0.0 in
-    let rest = steps_some mem first.1 frames first.2 all.1 in
+-- what a frame leads to is known beforehand
+seen_at : (told now : Bool) (f : InFrame) → now ≡ told → IsForeseen told f → IsForeseen now f
+seen_at told now f e seen = subst (λ (b : Bool). IsForeseen b f) (sym e) seen
+
+steps_some : (told : Bool) (mem : Memory) (s : State) (frames : List InFrame) → s.told ≡ told → HasByteStreams s → AllByRecursion (λ f. IsStep f × CarriesBytes f × IsForeseen told f) frames
+    → (outs : List OutFrame) × (last : State) × Steps mem s frames outs last
+steps_some told mem s [] same h all = ([], s, (refl, refl))
+steps_some told mem s (f ∷ frames) same h all =
+    let first = step_some mem s f h all.0.1 (seen_at told s.told f same all.0.2) all.0.0 in
+    let rest = steps_some told mem first.1 frames (step_tells mem s first.1 f first.0 first.3 ∙ same) first.2 all.1 in
     (first.0 ++ rest.0, rest.1, (first.1, first.0, rest.0, first.3, rest.2, refl))
 
-pub frames_some : (journal : JournalView) (mem : Memory) (frames : List InFrame) → AllByRecursion (λ f. IsStep f × CarriesBytes f) frames → (outs : List OutFrame) × (last : State) × Steps mem (start journal) frames outs last
-frames_some journal mem frames all = steps_some mem (start journal) frames (all-replicate HasBytes session_count Absent tt) all
+pub frames_some : (told : Bool) (found : Found) (mem : Memory) (frames : List InFrame) → AllByRecursion (λ f. IsStep f × CarriesBytes f × IsForeseen told f) frames
+    → (outs : List OutFrame) × (last : State) × Steps mem (start told found) frames outs last
+frames_some told found mem frames all = steps_some told mem (start told found) frames refl (all-replicate HasBytes session_count Absent tt) all
 
-pub frames_one : (s : State) (frames : List InFrame) (outs others : List OutFrame) (last other : State) → Steps Ample s frames outs last → Steps Ample s frames others other → (outs ≡ others) × (last ≡ other)
-frames_one s [] a b t u p q = passes_one s a b t u p q
-frames_one s (f ∷ frames) a b t u p q =
-    then_one (λ x. Step Ample x f) (λ x. Steps Ample x frames) (λ x c d v w. step_one x f c d v w) (λ x c d v w. frames_one x frames c d v w) s a b t u p q
+pub frames_one : (told : Bool) (s : State) (frames : List InFrame) (outs others : List OutFrame) (last other : State) → s.told ≡ told → AllByRecursion (IsForeseen told) frames
+    → Steps Ample s frames outs last → Steps Ample s frames others other → (outs ≡ others) × (last ≡ other)
+frames_one told s [] a b t u same seen p q = passes_one s a b t u p q
+frames_one told s (f ∷ frames) a b t u same seen p q =
+    let h = step_one s f p.1 q.1 p.0 q.0 (seen_at told s.told f same seen.0) p.3 q.3 in
+    let moved : Steps Ample p.0 frames q.2 u = subst (λ (x : State). Steps Ample x frames q.2 u) (sym h.1) q.4 in
+    let k = frames_one told p.0 frames p.2 q.2 t u (step_tells Ample s p.0 f p.1 p.3 ∙ same) seen.1 p.4 moved in
+    (p.5 ∙ ap (λ (x : List OutFrame). x ++ p.2) h.0 ∙ ap (λ (x : List OutFrame). q.1 ++ x) k.0 ∙ sym q.5, k.1)

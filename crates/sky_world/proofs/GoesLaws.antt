@@ -4,9 +4,12 @@ use Rattle.std.proofs.Common.{◌≡◌, ℕ, ◌≤◌, Bool, true, false, Opti
 use Rattle.sky_nfs.specs.History.{History, history_length, last_tree}
 use Rattle.sky_nfs.specs.declared.call.Change.{Change}
 use Rattle.sky_record.specs.Stream.{Progress}
+use Rattle.sky_recover.specs.Opening.{Found}
+use Rattle.sky_script.specs.Frame as frame
 use Rattle.sky_script.specs.Frame.{InFrame, OutFrame}
-use Rattle.sky_world.specs.Meaning.{State, Kept, Scarce, Memory, Answered, by_meaning, put_off, out_of_memory, after_message, called_by, kept_after, leaves_stable, Step, StepProgress, StepRecords}
+use Rattle.sky_world.specs.Meaning.{State, Kept, Scarce, Memory, Answered, by_meaning, put_off, out_of_memory, after_message, called_by, kept_after, leaves_stable, Restarts, as_known, untold, covered_found, kept_found, kept_of, Step, StepProgress, StepRecords}
 use Rattle.sky_world.specs.Laws.{IsMarked}
+use Rattle.sky_world.specs.World.{IsRestart}
 use Rattle.sky_world.specs.Message as message
 use Rattle.sky_world.specs.Message.{Message, meaning_of}
 use Rattle.sky_world.proofs.DiskLaws.{Extends, extends_same, extends_then, longer}
@@ -22,8 +25,8 @@ extends_of k l p = record {
   size = p.2;
 }
 
-pub step_extends : (mem : Memory) (old new : State) (f : InFrame) (outs : List OutFrame) → Step mem old f outs new → Extends old.kept new.kept
-step_extends mem old new f outs step = extends_of old.kept new.kept (step_goes_on_in mem old new f outs step)
+pub step_extends : (mem : Memory) (old new : State) (f : InFrame) (outs : List OutFrame) → (IsRestart f → ⊥) → Step mem old f outs new → Extends old.kept new.kept
+step_extends mem old new f outs plain step = extends_of old.kept new.kept (step_goes_on_in mem old new f outs plain step)
 
 pub records_extend : (mem : Memory) (n : ℕ) (records : List (List ℕ)) (old : State) (outs : List OutFrame) (new : State) → StepRecords mem n records old outs new → Extends old.kept new.kept
 records_extend mem n records old outs new steps = extends_of old.kept new.kept (records_go_on_in mem n records old outs new steps)
@@ -93,5 +96,24 @@ message_marked s (message.Refused xid reply) = marked_same s.kept s.kept refl
 message_marked s (message.Mount xid call) = marked_same s.kept s.kept refl
 message_marked s (message.Nfs xid cred call) = call_marked s.kept (called_by cred call s.moment)
 
-pub step_marked : (mem : Memory) (old new : State) (f : InFrame) (outs : List OutFrame) → Step mem old f outs new → IsMarked old.kept → (old.kept.mark ≤ new.kept.mark) × IsMarked new.kept
-step_marked mem old new f outs step = step_leads StaysMarked marked_same marked_then message_marked mem old f outs new step
+-- a frame that is no restart leaves the mark within the history, and does not let it fall
+pub step_stays_marked : (mem : Memory) (old new : State) (f : InFrame) (outs : List OutFrame) → (IsRestart f → ⊥) → Step mem old f outs new → IsMarked old.kept → (old.kept.mark ≤ new.kept.mark) × IsMarked new.kept
+step_stays_marked mem old new f outs plain step = step_leads StaysMarked marked_same marked_then message_marked mem old f outs new plain step
+
+-- what was found is marked
+pub found_marked : (found : Found) → IsMarked (kept_of found)
+found_marked found = record { least = omega arith; most = omega arith }
+
+restart_marked : (old : State) (known : Found) (outs : List OutFrame) (new : State) → Restarts old known outs new → IsMarked new.kept
+restart_marked old known outs new (as_known told is) = subst (λ (s : State). IsMarked s.kept) (sym is.1) (found_marked known)
+restart_marked old known outs new (untold found not_told legal volume same_volume same_size is) = subst (λ (s : State). IsMarked s.kept) (sym is.1) (found_marked found)
+
+pub step_marked : (mem : Memory) (old new : State) (f : InFrame) (outs : List OutFrame) → Step mem old f outs new → IsMarked old.kept → IsMarked new.kept
+step_marked mem old new (frame.Begin n) outs step marked = (step_stays_marked mem old new (frame.Begin n) outs (λ r. r) step marked).1
+step_marked mem old new (frame.Bytes n payload) outs step marked = (step_stays_marked mem old new (frame.Bytes n payload) outs (λ r. r) step marked).1
+step_marked mem old new (frame.Close n) outs step marked = (step_stays_marked mem old new (frame.Close n) outs (λ r. r) step marked).1
+step_marked mem old new (frame.SetMoment at) outs step marked = (step_stays_marked mem old new (frame.SetMoment at) outs (λ r. r) step marked).1
+step_marked mem old new frame.Stat outs step marked = (step_stays_marked mem old new frame.Stat outs (λ r. r) step marked).1
+step_marked mem old new frame.Restart outs step marked = restart_marked old (kept_found old) outs new step
+step_marked mem old new frame.RestartWithoutJournal outs step marked = restart_marked old (covered_found old) outs new step
+step_marked mem old new frame.End outs step marked = absurd step

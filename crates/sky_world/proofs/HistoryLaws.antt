@@ -1,6 +1,6 @@
 -- Laws of the history, and of want of memory.
 use Rattle.std.specs.Prelude.{cond}
-use Rattle.std.proofs.Common.{◌≡◌, ℕ, Bool, true, false, ◌&&◌, IsTrue, Option, Some, None, List, [], ◌∷◌, ◌++◌, inl, inr, refl, sym, ap, subst, ◌∙◌, append_assoc}
+use Rattle.std.proofs.Common.{◌≡◌, ℕ, zero, suc, ◌-◌, take, Bool, true, false, ◌&&◌, IsTrue, Option, Some, None, List, [], ◌∷◌, ◌++◌, inl, inr, refl, sym, ap, subst, ◌∙◌, append_assoc}
 use Rattle.std.proofs.lemmas.List.{append-nil}
 use Rattle.std.specs.List.{AllByRecursion}
 use Rattle.sky_base.specs.declared.cred.Cred.{Cred}
@@ -17,7 +17,8 @@ use Rattle.sky_record.specs.Stream.{Progress, AtHeader, InFragment, Whole, TooLo
 use Rattle.sky_script.specs.Frame as frame
 use Rattle.sky_script.specs.Frame.{InFrame, OutFrame}
 use Rattle.sky_world.specs.Laws.{TellsOutOfMemory, NoneOutOfMemory, GoesOnFrom}
-use Rattle.sky_world.specs.Meaning.{State, Kept, Session, Absent, Open, Closed, Memory, Ample, Scarce, Answered, by_meaning, put_off, out_of_memory, after_call, after_message, after_reply, called_by, kept_after, makes_stable, service_of, session_at, with_change, with_kept, with_session, is_open, frame_for, Passes, Then, Closes, StepRecord, StepRecords, StepProgress, StepBytes, Step, Steps}
+use Rattle.sky_world.specs.World.{IsRestart}
+use Rattle.sky_world.specs.Meaning.{State, Kept, Session, Absent, Open, Closed, Memory, Ample, Scarce, Answered, by_meaning, put_off, out_of_memory, after_call, after_message, after_reply, called_by, kept_after, makes_stable, service_of, session_at, with_change, with_kept, with_session, is_open, frame_for, Passes, Then, Closes, StepRecord, StepRecords, StepProgress, StepBytes, Restarts, as_known, untold, Reopens, covered_found, cut_to, found_to, kept_found, Step, Steps}
 use Rattle.sky_world.specs.Message as message
 use Rattle.sky_world.specs.Message.{Message, meaning_of}
 use Rattle.sky_world.specs.Service.{RunsOut}
@@ -50,6 +51,18 @@ done_then t (c ∷ changes) change all one =
 legal_with : (h : History) (change : Change) → is_done (last_tree h) change ≡ true → IsLegalHistory h → IsLegalHistory (with_change h change)
 legal_with h change done legal = record { valid = legal.valid; done = done_then h.tree h.changes change legal.done done }
 
+-- the first of changes that are done are done
+done_first : (t : Tree) (n : ℕ) (changes : List Change) → are_done t changes ≡ true → are_done t (take n changes) ≡ true
+done_first t zero changes all = refl
+done_first t (suc n) [] all = refl
+done_first t (suc n) (c ∷ changes) all =
+    let after : Tree = tree_after_change t c in
+    and_then (is_done t c) (are_done after changes) (are_done after (take n changes)) all (λ e. done_first after n changes e)
+
+-- a history that is cut stays legal
+pub cut_legal : (n : ℕ) (h : History) → IsLegalHistory h → IsLegalHistory (cut_to n h)
+cut_legal n h legal = record { valid = legal.valid; done = done_first h.tree (n - h.before) h.changes legal.done }
+
 -- what becomes of a history by a call
 module _ (h : History) (cred : Cred) (call : Call) (moment : Moment) where
   abbrev change : Change
@@ -69,27 +82,27 @@ module _ (h : History) (cred : Cred) (call : Call) (moment : Moment) where
       go true e = rw e (legal_with h change e legal)
       go false e = rw e legal
 
--- the history goes on, in a journal of the same volume and size
+-- the history goes on, in a journal of the same volume and size, with the same older area
 abbrev pub GoesOnIn : Kept → Kept → Type 0
-GoesOnIn k l = GoesOnFrom k.history l.history × (l.journal.volume ≡ k.journal.volume) × (l.journal.size ≡ k.journal.size)
+GoesOnIn k l = GoesOnFrom k.history l.history × (l.journal.volume ≡ k.journal.volume) × (l.journal.size ≡ k.journal.size) × (l.journal.older ≡ k.journal.older)
 
 journal_same : (done stable makes : Bool) (j : JournalView) (e : List ℕ)
-    → (let k : JournalView = cond done (journal_after stable j e) (cond makes (after_commit j) j) in (k.volume ≡ j.volume) × (k.size ≡ j.size))
-journal_same true true makes j e = (refl, refl)
-journal_same true false makes j e = (refl, refl)
-journal_same false stable true j e = (refl, refl)
-journal_same false stable false j e = (refl, refl)
+    → (let k : JournalView = cond done (journal_after stable j e) (cond makes (after_commit j) j) in (k.volume ≡ j.volume) × (k.size ≡ j.size) × (k.older ≡ j.older))
+journal_same true true makes j e = (refl, refl, refl)
+journal_same true false makes j e = (refl, refl, refl)
+journal_same false stable true j e = (refl, refl, refl)
+journal_same false stable false j e = (refl, refl, refl)
 
 pub call_goes_on_in : (kept : Kept) (change : Change) → GoesOnIn kept (kept_after kept change)
 call_goes_on_in kept change =
     let same = journal_same (is_done (last_tree kept.history) change) (is_stable_call change.call) (makes_stable (last_tree kept.history) change.cred change.call) kept.journal (entry_bytes change) in
-    (call_goes_on kept.history change.cred change.call change.moment, same.0, same.1)
+    (call_goes_on kept.history change.cred change.call change.moment, same.0, same.1, same.2)
 
 kept_goes_on : (h k : Kept) → k ≡ h → GoesOnIn h k
-kept_goes_on h k e = (goes_on_same h.history k.history (ap (λ (x : Kept). x.history) e), ap (λ (x : Kept). x.journal.volume) e, ap (λ (x : Kept). x.journal.size) e)
+kept_goes_on h k e = (goes_on_same h.history k.history (ap (λ (x : Kept). x.history) e), ap (λ (x : Kept). x.journal.volume) e, ap (λ (x : Kept). x.journal.size) e, ap (λ (x : Kept). x.journal.older) e)
 
 kept_goes_then : (h k l : Kept) → GoesOnIn h k → GoesOnIn k l → GoesOnIn h l
-kept_goes_then h k l p q = (goes_on_then h.history k.history l.history p.0 q.0, q.1 ∙ p.1, q.2 ∙ p.2)
+kept_goes_then h k l p q = (goes_on_then h.history k.history l.history p.0 q.0, q.1 ∙ p.1, q.2 ∙ p.2, q.3 ∙ p.3)
 
 message_goes_on : (s : State) (m : Message) → GoesOnIn s.kept (after_message s m)
 message_goes_on s message.Close = kept_goes_on s.kept s.kept refl
@@ -154,20 +167,22 @@ module _ (R : Kept → Kept → Type 0) (same : (h k : Kept) → k ≡ h → R h
   bytes_lead Absent n payload s outs t p = passes_leads s outs t p
   bytes_lead Closed n payload s outs t p = passes_leads s outs t p
 
-  pub step_leads : (s : State) (f : InFrame) (outs : List OutFrame) (t : State) → Step mem s f outs t → R s.kept t.kept
-  step_leads s (frame.Begin n) outs t p = same s.kept t.kept (ap (λ (x : State). x.kept) p.1)
-  step_leads s (frame.Bytes n payload) outs t p = bytes_lead (session_at s n) n payload s outs t p
-  step_leads s (frame.Close n) outs t p = same s.kept t.kept (ap (λ (x : State). x.kept) p.1)
-  step_leads s (frame.SetMoment at) outs t p = same s.kept t.kept (ap (λ (x : State). x.kept) p.1)
-  step_leads s frame.Stat outs t p = same s.kept t.kept (ap (λ (x : State). x.kept) p.1)
-  step_leads s frame.End outs t p = absurd p
+  pub step_leads : (s : State) (f : InFrame) (outs : List OutFrame) (t : State) → (IsRestart f → ⊥) → Step mem s f outs t → R s.kept t.kept
+  step_leads s (frame.Begin n) outs t plain p = same s.kept t.kept (ap (λ (x : State). x.kept) p.1)
+  step_leads s (frame.Bytes n payload) outs t plain p = bytes_lead (session_at s n) n payload s outs t p
+  step_leads s (frame.Close n) outs t plain p = same s.kept t.kept (ap (λ (x : State). x.kept) p.1)
+  step_leads s (frame.SetMoment at) outs t plain p = same s.kept t.kept (ap (λ (x : State). x.kept) p.1)
+  step_leads s frame.Stat outs t plain p = same s.kept t.kept (ap (λ (x : State). x.kept) p.1)
+  step_leads s frame.Restart outs t plain p = absurd (plain tt)
+  step_leads s frame.RestartWithoutJournal outs t plain p = absurd (plain tt)
+  step_leads s frame.End outs t plain p = absurd p
 
 -- a history stays legal
 abbrev StaysLegal : Kept → Kept → Type 0
 StaysLegal h k = IsLegalHistory h.history → IsLegalHistory k.history
 
-pub step_goes_on_in : (mem : Memory) (old new : State) (f : InFrame) (outs : List OutFrame) → Step mem old f outs new → GoesOnIn old.kept new.kept
-step_goes_on_in mem old new f outs step = step_leads GoesOnIn kept_goes_on kept_goes_then message_goes_on mem old f outs new step
+pub step_goes_on_in : (mem : Memory) (old new : State) (f : InFrame) (outs : List OutFrame) → (IsRestart f → ⊥) → Step mem old f outs new → GoesOnIn old.kept new.kept
+step_goes_on_in mem old new f outs plain step = step_leads GoesOnIn kept_goes_on kept_goes_then message_goes_on mem old f outs new plain step
 
 pub records_go_on_in : (mem : Memory) (n : ℕ) (records : List (List ℕ)) (old : State) (outs : List OutFrame) (new : State) → StepRecords mem n records old outs new → GoesOnIn old.kept new.kept
 records_go_on_in mem n records old outs new steps = records_lead GoesOnIn kept_goes_on kept_goes_then message_goes_on mem n records old outs new steps
@@ -175,12 +190,27 @@ records_go_on_in mem n records old outs new steps = records_lead GoesOnIn kept_g
 pub progress_goes_on_in : (mem : Memory) (n : ℕ) (progress : Progress) (old : State) (outs : List OutFrame) (new : State) → StepProgress n progress old outs new → GoesOnIn old.kept new.kept
 progress_goes_on_in mem n progress old outs new step = progress_leads GoesOnIn kept_goes_on kept_goes_then message_goes_on mem n progress old outs new step
 
-pub step_goes_on : (mem : Memory) (old new : State) (f : InFrame) (outs : List OutFrame) → Step mem old f outs new → GoesOnFrom old.kept.history new.kept.history
-step_goes_on mem old new f outs step = (step_goes_on_in mem old new f outs step).0
+pub step_goes_on : (mem : Memory) (old new : State) (f : InFrame) (outs : List OutFrame) → (IsRestart f → ⊥) → Step mem old f outs new → GoesOnFrom old.kept.history new.kept.history
+step_goes_on mem old new f outs plain step = (step_goes_on_in mem old new f outs plain step).0
+
+legal_leads : (mem : Memory) (old : State) (f : InFrame) (outs : List OutFrame) (new : State) → (IsRestart f → ⊥) → Step mem old f outs new → IsLegalHistory old.kept.history → IsLegalHistory new.kept.history
+legal_leads mem old f outs new plain step =
+    step_leads StaysLegal (λ h k e legal. subst (λ (x : Kept). IsLegalHistory x.history) (sym e) legal) (λ h k l p q legal. q (p legal)) message_legal mem old f outs new plain step
+
+-- the history that a restart finds is legal
+restart_legal : (old : State) (n : ℕ) (outs : List OutFrame) (new : State) → Restarts old (found_to n old) outs new → IsLegalHistory old.kept.history → IsLegalHistory new.kept.history
+restart_legal old n outs new (as_known told is) legal = subst (λ (s : State). IsLegalHistory s.kept.history) (sym is.1) (cut_legal n old.kept.history legal)
+restart_legal old n outs new (untold found not_told found_legal volume same_volume same_size is) legal = subst (λ (s : State). IsLegalHistory s.kept.history) (sym is.1) found_legal
 
 pub step_legal : (mem : Memory) (old new : State) (f : InFrame) (outs : List OutFrame) → Step mem old f outs new → IsLegalHistory old.kept.history → IsLegalHistory new.kept.history
-step_legal mem old new f outs step =
-    step_leads StaysLegal (λ h k e legal. subst (λ (x : Kept). IsLegalHistory x.history) (sym e) legal) (λ h k l p q legal. q (p legal)) message_legal mem old f outs new step
+step_legal mem old new (frame.Begin n) outs step = legal_leads mem old (frame.Begin n) outs new (λ r. r) step
+step_legal mem old new (frame.Bytes n payload) outs step = legal_leads mem old (frame.Bytes n payload) outs new (λ r. r) step
+step_legal mem old new (frame.Close n) outs step = legal_leads mem old (frame.Close n) outs new (λ r. r) step
+step_legal mem old new (frame.SetMoment at) outs step = legal_leads mem old (frame.SetMoment at) outs new (λ r. r) step
+step_legal mem old new frame.Stat outs step = legal_leads mem old frame.Stat outs new (λ r. r) step
+step_legal mem old new frame.Restart outs step = restart_legal old old.kept.mark outs new step
+step_legal mem old new frame.RestartWithoutJournal outs step = restart_legal old old.kept.history.before outs new step
+step_legal mem old new frame.End outs step = absurd step
 
 -- ---- want of memory
 
@@ -235,6 +265,8 @@ step_may s t (frame.Bytes n payload) outs p = bytes_may (session_at s n) n paylo
 step_may s t (frame.Close n) outs p = p
 step_may s t (frame.SetMoment at) outs p = p
 step_may s t frame.Stat outs p = p
+step_may s t frame.Restart outs p = p
+step_may s t frame.RestartWithoutJournal outs p = p
 step_may s t frame.End outs p = absurd p
 
 -- an answer that there was no memory is told
@@ -276,6 +308,8 @@ step_told s t (frame.Bytes n payload) outs p none = bytes_told (session_at s n) 
 step_told s t (frame.Close n) outs p none = p
 step_told s t (frame.SetMoment at) outs p none = p
 step_told s t frame.Stat outs p none = p
+step_told s t frame.Restart outs p none = p
+step_told s t frame.RestartWithoutJournal outs p none = p
 step_told s t frame.End outs p none = absurd p
 
 pub steps_told : (s : State) (fs : List InFrame) (outs : List OutFrame) (t : State) → Steps Scarce s fs outs t → NoneOutOfMemory outs → Steps Ample s fs outs t

@@ -15,9 +15,9 @@ use Rattle.sky_outside.specs.Moments.{BesideObjects, LeavesOnly, SameCloud}
 use Rattle.sky_outside.specs.Told.{BothTold, WhereTold}
 use Rattle.sky_outside.specs.declared.storage.Storage.{Ghosts}
 use Rattle.sky_outside.proofs.ToldLaws.{WhereTold-at, WhereTold-from}
-use Rattle.sky_world.specs.Disk.{HoldsPrefix, IsKeptOn, LeavesPrefix, ReadsAsPrefix, WentOn, entries_behind, entries_to}
+use Rattle.sky_world.specs.Disk.{AreStorable, HasKept, HoldsPrefix, IsKeptOn, LeavesPrefix, ReadsAsPrefix, WentOn, entries_behind, entries_to}
 use Rattle.sky_world.specs.Meaning.{Kept, with_change}
-use Rattle.sky_world.proofs.DiskLaws.{Extends, entries_to_same, extends_same, longer, prefix_on}
+use Rattle.sky_world.proofs.DiskLaws.{Extends, entries_to_same, extends_same, longer, prefix_on, storable_to}
 
 -- ---- how what is kept moves
 
@@ -67,10 +67,10 @@ module _ (b m : ℕ) (cs : List Change) (least : b ≤ m) (most : m ≤ b + leng
   whole : (xs : List Change) → take (b + length xs - b) xs ≡ xs
   whole xs = take_all (b + length xs - b) xs (omega arith)
 
-  none_behind : (xs : List Change) → drop (b + length xs - b) xs ≡ []
+  pub none_behind : (xs : List Change) → drop (b + length xs - b) xs ≡ []
   none_behind xs = drop_all (b + length xs - b) xs (omega arith)
 
-  behind_length : length (map entry_bytes (drop (m - b) cs)) ≡ b + length cs - m
+  pub behind_length : length (map entry_bytes (drop (m - b) cs)) ≡ b + length cs - m
   behind_length = omega (arith, length-map (drop (m - b) cs) entry_bytes, length-drop (m - b) cs)
 
   -- a change more
@@ -79,7 +79,7 @@ module _ (b m : ℕ) (cs : List Change) (least : b ≤ m) (most : m ≤ b + leng
       ap (λ (x : List Change). map entry_bytes x) (whole (cs ++ c ∷ [])) ∙ map-append entry_bytes cs (c ∷ []) ∙ ap (λ (x : List (List ℕ)). x ++ entry_bytes c ∷ []) all_parts
       ∙ append_assoc (map entry_bytes (take (m - b) cs)) (map entry_bytes (drop (m - b) cs)) (entry_bytes c ∷ [])
 
-  one_behind : (c : Change) → map entry_bytes (drop (m - b) (cs ++ c ∷ [])) ≡ map entry_bytes (drop (m - b) cs) ++ entry_bytes c ∷ []
+  pub one_behind : (c : Change) → map entry_bytes (drop (m - b) (cs ++ c ∷ [])) ≡ map entry_bytes (drop (m - b) cs) ++ entry_bytes c ∷ []
   one_behind c = ap (λ (x : List Change). map entry_bytes x) (drop-append-le (m - b) cs (c ∷ []) (omega arith)) ∙ map-append entry_bytes (drop (m - b) cs) (c ∷ [])
 
 last_more : (n : Option OpenArea) (k : ℕ) → IsSome n → number_behind n k ≡ number_behind n 0 + k
@@ -176,47 +176,48 @@ module _ {S : Type 0} (g : Ghosts S) (kept : Kept) (change : Change) (s : S) (on
 
 -- ---- what the disk has then
 
-module _ {S : Type 0} (g : Ghosts S) (s t : S) (kept later : Kept) (brought : List (List ℕ)) (moves : Moves kept later brought) (on : IsKeptOn g kept s) where
-  -- the entries with those that were brought
-  brought_list : (more : List (List ℕ)) → entries kept.journal on.older ((on.newer ++ brought) ++ more) ≡ numbered later.history.before (entries_to later.history later.mark ++ more)
-  brought_list more =
-      ap (λ (x : List (List ℕ)). entries kept.journal on.older x) (append_assoc on.newer brought more) ∙ on.numbers (brought ++ more)
-      ∙ ap (λ (x : List (List ℕ)). numbered kept.history.before x) (sym (append_assoc (entries_to kept.history kept.mark) brought more))
-      ∙ ap (λ (x : List (List ℕ)). numbered kept.history.before (x ++ more)) (sym moves.comes)
-      ∙ ap (λ (b : ℕ). numbered b (entries_to later.history later.mark ++ more)) (sym moves.extends.before)
+module _ {S : Type 0} (g : Ghosts S) (s t : S) (kept later : Kept) (brought : List (List ℕ)) (moves : Moves kept later brought) (on : IsKeptOn g kept s) (storable : AreStorable later.history.changes) where
+  -- over an image that has what is kept
+  module _ (read : List ℕ) (has : HasKept kept read) where
+    -- the entries with those that were brought
+    brought_list : (more : List (List ℕ)) → entries kept.journal has.older ((has.newer ++ brought) ++ more) ≡ numbered later.history.before (entries_to later.history later.mark ++ more)
+    brought_list more =
+        ap (λ (x : List (List ℕ)). entries kept.journal has.older x) (append_assoc has.newer brought more) ∙ has.numbers (brought ++ more)
+        ∙ ap (λ (x : List (List ℕ)). numbered kept.history.before x) (sym (append_assoc (entries_to kept.history kept.mark) brought more))
+        ∙ ap (λ (x : List (List ℕ)). numbered kept.history.before (x ++ more)) (sym moves.comes)
+        ∙ ap (λ (b : ℕ). numbered b (entries_to later.history later.mark ++ more)) (sym moves.extends.before)
 
-  -- what reads as the entries from before reads as the prefix up to the mark
-  old_prefix : (image : List ℕ) → Reads kept.journal on.older on.newer image → ReadsAsPrefix kept kept.mark image
-  old_prefix image is =
-      let list : entries kept.journal on.older on.newer ≡ numbered kept.history.before (entries_to kept.history kept.mark) =
-      ap (λ (n : List (List ℕ)). entries kept.journal on.older n) (sym (append-nil on.newer)) ∙ on.numbers [] ∙ ap (λ (n : List (List ℕ)). numbered kept.history.before n) (append-nil (entries_to kept.history kept.mark)) in
-      rw (← list, ← on.base) is
+    -- what reads as the entries from before reads as the prefix up to the mark
+    old_prefix : (image : List ℕ) → Reads kept.journal has.older has.newer image → ReadsAsPrefix kept kept.mark image
+    old_prefix image is =
+        let list : entries kept.journal has.older has.newer ≡ numbered kept.history.before (entries_to kept.history kept.mark) =
+        ap (λ (n : List (List ℕ)). entries kept.journal has.older n) (sym (append-nil has.newer)) ∙ has.numbers [] ∙ ap (λ (n : List (List ℕ)). numbered kept.history.before n) (append-nil (entries_to kept.history kept.mark)) in
+        rw (← list, ← has.base) is
 
-  -- and with those that were brought as the prefix up to the mark of later
-  new_prefix : (image : List ℕ) → Reads kept.journal on.older (on.newer ++ brought) image → ReadsAsPrefix later later.mark image
-  new_prefix image is =
-      let list : entries kept.journal on.older (on.newer ++ brought) ≡ numbered later.history.before (entries_to later.history later.mark) =
-      ap (λ (n : List (List ℕ)). entries kept.journal on.older n) (sym (append-nil (on.newer ++ brought))) ∙ brought_list [] ∙ ap (λ (n : List (List ℕ)). numbered later.history.before n) (append-nil (entries_to later.history later.mark)) in
-      rw (moves.extends.volume, moves.extends.size, ← list, moves.extends.before, ← on.base) is
+    -- and with those that were brought as the prefix up to the mark of later
+    new_prefix : (image : List ℕ) → Reads kept.journal has.older (has.newer ++ brought) image → ReadsAsPrefix later later.mark image
+    new_prefix image is =
+        let list : entries kept.journal has.older (has.newer ++ brought) ≡ numbered later.history.before (entries_to later.history later.mark) =
+        ap (λ (n : List (List ℕ)). entries kept.journal has.older n) (sym (append-nil (has.newer ++ brought))) ∙ brought_list [] ∙ ap (λ (n : List (List ℕ)). numbered later.history.before n) (append-nil (entries_to later.history later.mark)) in
+        rw (moves.extends.volume, moves.extends.size, ← list, moves.extends.before, ← has.base) is
+
+    prefix_of : (image : List ℕ) → Reads kept.journal has.older has.newer image ⊎ Reads kept.journal has.older (has.newer ++ brought) image → HoldsPrefix kept.mark later image
+    prefix_of image (inl old) =
+        (kept.mark, omega arith, omega (arith, on.most, longer kept later moves.extends), prefix_on kept later moves.extends kept.mark image on.most (old_prefix image old), storable_to later kept.mark storable)
+    prefix_of image (inr new) = (later.mark, moves.mark, moves.most, new_prefix image new, storable_to later later.mark storable)
 
   pub leaves_prefix : LeavesOldOrMore g s t kept.journal brought → LeavesPrefix g s t kept.mark later
   leaves_prefix leaves =
       WhereTold-from (g.image s) (λ read. LeavesOnly g s t (BesideObjects g s (HoldsPrefix kept.mark later)))
       (λ read is.
-      let stands = WhereTold-at (g.image s) (λ r. StandsFor kept.journal r on.older on.newer) read is on.laid in
+      let has = WhereTold-at (g.image s) (HasKept kept) read is on.has in
       let l = WhereTold-at (g.image s) (λ r. (older newer : List (List ℕ)) → StandsFor kept.journal r older newer
-      → LeavesOnly g s t (BesideObjects g s (λ left. Reads kept.journal older newer left ⊎ Reads kept.journal older (newer ++ brought) left))) read is leaves on.older on.newer stands in
-      let to_prefix = λ (image : List ℕ) (p : Reads kept.journal on.older on.newer image ⊎ Reads kept.journal on.older (on.newer ++ brought) image).
-      prefix_of image p in
+      → LeavesOnly g s t (BesideObjects g s (λ left. Reads kept.journal older newer left ⊎ Reads kept.journal older (newer ++ brought) left))) read is leaves has.older has.newer has.laid in
       record {
         later = l.later;
-        since = λ image objects left. let p = l.since image objects left in (to_prefix image p.0, p.1);
-        before = λ u image objects le left. ⊎_elim inl (λ p. inr (to_prefix image p.0, p.1)) (l.before u image objects le left);
+        since = λ image objects left. let p = l.since image objects left in (prefix_of read has image p.0, p.1);
+        before = λ u image objects le left. ⊎_elim inl (λ p. inr (prefix_of read has image p.0, p.1)) (l.before u image objects le left);
       })
-    where
-      prefix_of : (image : List ℕ) → Reads kept.journal on.older on.newer image ⊎ Reads kept.journal on.older (on.newer ++ brought) image → HoldsPrefix kept.mark later image
-      prefix_of image (inl old) = (kept.mark, omega arith, omega (arith, on.most, longer kept later moves.extends), prefix_on kept later moves.extends kept.mark image on.most (old_prefix image old))
-      prefix_of image (inr new) = (later.mark, moves.mark, moves.most, new_prefix image new)
 
   -- the journal of the program, which has another spare, stands for what is kept later
   pub kept_on : (journal : JournalView) (spare : ℕ) → journal ≡ record later.journal { spare = spare } → IsJournal journal → StandsOn g journal t → HoldsMore g s t kept.journal journal brought → IsKeptOn g later t
@@ -225,15 +226,10 @@ module _ {S : Type 0} (g : Ghosts S) (s t : S) (kept later : Kept) (brought : Li
     least = omega (arith, on.least, moves.mark, moves.extends.before);
     most = moves.most;
     pending = moves.pending;
-    base = moves.base ∙ on.base ∙ sym moves.extends.before;
     stored = moves.stored;
+    storable = storable;
     durable = stands.durable;
-    older = on.older;
-    newer = on.newer ++ brought;
-    laid =
-        WhereTold-from (g.image t) (λ image. StandsFor later.journal image on.older (on.newer ++ brought))
-        (λ image told. laid_at (g.image s) (g.image t) image told on.laid holds);
-    numbers = λ more. moves.same on.older ((on.newer ++ brought) ++ more) ∙ brought_list more;
+    has = WhereTold-from (g.image t) (HasKept later) (λ image told. has_at (g.image s) (g.image t) image told on.has holds);
   }
     where
       journal_is : IsJournal (record later.journal { spare = spare }) → IsJournal later.journal
@@ -244,15 +240,21 @@ module _ {S : Type 0} (g : Ghosts S) (s t : S) (kept later : Kept) (brought : Li
           let there : StandsFor (record later.journal { spare = spare }) image older newer = subst (λ (j : JournalView). StandsFor j image older newer) same st in
           record { size = there.size; older_is = there.older_is; newer_is = there.newer_is; others = there.others }
 
-      laid_at : (a b : Option (List ℕ)) (image : List ℕ) → b ≡ Some image → WhereTold a (λ r. StandsFor kept.journal r on.older on.newer)
+      has_at : (a b : Option (List ℕ)) (image : List ℕ) → b ≡ Some image → WhereTold a (HasKept kept)
           → BothTold (λ old new. (older newer : List (List ℕ)) → StandsFor kept.journal old older newer → StandsFor journal new older (newer ++ brought)) a b
-          → StandsFor later.journal image on.older (on.newer ++ brought)
-      laid_at None None image e laid both = absurd cc
-      laid_at None (Some y) image e laid both = absurd both
-      laid_at (Some x) None image e laid both = absurd both
-      laid_at (Some x) (Some y) image e laid both =
+          → HasKept later image
+      has_at None None image e had both = absurd cc
+      has_at None (Some y) image e had both = absurd both
+      has_at (Some x) None image e had both = absurd both
+      has_at (Some x) (Some y) image e had both =
           let eq : y ≡ image = cc in
-          subst (λ (i : List ℕ). StandsFor later.journal i on.older (on.newer ++ brought)) eq (at_later y on.older (on.newer ++ brought) (both on.older on.newer laid))
+          record {
+            older = had.older;
+            newer = had.newer ++ brought;
+            laid = subst (λ (i : List ℕ). StandsFor later.journal i had.older (had.newer ++ brought)) eq (at_later y had.older (had.newer ++ brought) (both had.older had.newer had.laid));
+            base = moves.base ∙ had.base ∙ sym moves.extends.before;
+            numbers = λ more. moves.same had.older ((had.newer ++ brought) ++ more) ∙ brought_list x had more;
+          }
 
   tells_both : (a b : Option (List ℕ)) (journal : JournalView) → BothTold (λ old new. (older newer : List (List ℕ)) → StandsFor kept.journal old older newer → StandsFor journal new older (newer ++ brought)) a b
       → BothTold (λ old new. Unit {0}) a b

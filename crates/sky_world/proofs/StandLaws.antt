@@ -1,52 +1,85 @@
 -- Laws of the states that the world stands for.
-use Rattle.std.proofs.Common.{◌≡◌, ℕ, ◌+◌, ◌<◌, zero, suc, Bool, Option, Some, None, List, [], ◌∷◌, ◌++◌, length, get_or, set, replicate, take, ⊎_elim, refl, sym, ap, subst, ◌∙◌, arith}
+use Rattle.std.proofs.Common.{◌≡◌, ℕ, ◌+◌, ◌<◌, Bool, false, Option, Some, None, List, [], ◌∷◌, ◌++◌, length, get_or, set, take, ⊎_elim, refl, sym, ap, subst, ◌∙◌, arith}
 use Rattle.std.specs.Prelude.{IsSome}
 use Rattle.std.proofs.lemmas.Bool.{cases_eq}
-use Rattle.std.proofs.lemmas.List.{length-set, length-replicate, set-get_or, get_or-set_same, get_or-set_other}
+use Rattle.std.proofs.lemmas.List.{length-set, set-get_or, get_or-set_same, get_or-set_other}
 use Rattle.sky_base.specs.declared.moment.Moment.{Moment}
-use Rattle.sky_journal.specs.Journal.{JournalView, SameButSpare, last_of, number_behind}
+use Rattle.sky_journal.specs.Journal.{JournalView, last_of, number_behind}
 use Rattle.sky_nfs.specs.History.{history_length}
-use Rattle.sky_nfs.specs.Tree.{Tree, empty_tree}
-use Rattle.sky_outside.specs.Told.{Given, GivenPart, WhereTold}
+use Rattle.sky_outside.specs.CloudMap.{CloudMap}
+use Rattle.sky_outside.specs.Moments.{SameCloud}
+use Rattle.sky_outside.specs.Told.{BothTold, Given, GivenPart, WhereTold}
 use Rattle.sky_outside.specs.declared.storage.Storage.{Ghosts}
-use Rattle.sky_outside.proofs.ToldLaws.{Given-none}
+use Rattle.sky_outside.proofs.ToldLaws.{Given-none, WhereTold-at, WhereTold-from}
 use Rattle.sky_record.specs.Stream.{Received, nothing}
 use Rattle.sky_record.proofs.Reading.{reads_nothing}
-use Rattle.sky_script.specs.Frame.{InFrame, Begin, Bytes, Close, SetMoment, Stat, OutFrame, Counted, out_frame, session_count}
+use Rattle.sky_recover.specs.Opening.{Found, IsFoundOn, IsOpenOn, LeavesFound}
+use Rattle.sky_script.specs.Frame.{InFrame, Begin, Bytes, Close, SetMoment, Stat, Restart, RestartWithoutJournal, OutFrame, Counted, out_frame, session_count}
 use Rattle.sky_script.specs.declared.frame.Stats.{Stats}
-use Rattle.sky_world.specs.Disk.{IsKeptOn, ReadsAsPrefix, WentOn}
+use Rattle.sky_sound.specs.Boot.{claimed}
+use Rattle.sky_sound.specs.Cloud.{cloud_tree}
+use Rattle.sky_world.specs.Disk.{IsKeptOn, LeavesPrefix}
+use Rattle.sky_world.specs.Finding.{LeavesFinding}
 use Rattle.sky_world.specs.Sessions.{closed}
 use Rattle.sky_world.specs.declared.sessions.Session.{Session}
 use Rattle.sky_world.specs.declared.sessions.Session.TheVariants.{Absent, Open, Closed}
 use Rattle.sky_world.specs.Meaning as meaning
-use Rattle.sky_world.specs.Meaning.{State, Kept, Scarce, start, stats_of, session_at, with_kept, with_session, StepBytes}
-use Rattle.sky_world.specs.Opening.{opened_world}
-use Rattle.sky_world.specs.World.{ServiceView, SinkGot, WorldView, Stands, StandsAt, StandsFor, Stepped, SteppedPart, SteppedDown, stats_shown}
+use Rattle.sky_world.specs.Meaning.{State, Kept, Scarce, Step, opening, stats_of, session_at, with_kept, with_session, StepBytes}
+use Rattle.sky_world.specs.Opening.{reopened_world}
+use Rattle.sky_world.specs.World.{ServiceView, SinkGot, WorldView, IsBeside, IsRecoverable, IsRestart, Stands, StandsAt, StandsFor, Stepped, SteppedPart, SteppedDown, stats_shown}
 use Rattle.sky_world.specs.Feeding.{Handled, HandledPart, HandledDown}
-use Rattle.sky_world.proofs.DiskLaws.{left_is_prefix, went_nowhere}
+use Rattle.sky_world.proofs.DiskLaws.{went_nowhere}
 use Rattle.sky_world.proofs.FeedLaws.{given_one, given_part_one}
+use Rattle.sky_world.proofs.FindingLaws.{Begins, begins_at, leaves_finding, stands_find}
+use Rattle.sky_world.proofs.HistoryLaws.{step_legal}
 use Rattle.sky_world.proofs.KeepLaws.{last_is}
+use Rattle.sky_world.proofs.RecoverableLaws.{SameBeginning, recoverable_step, step_begins_same}
+use Rattle.sky_world.proofs.ReopenLaws.{restart_leaves, restarted}
+use Rattle.sky_world.proofs.WipeLaws.{HoldsNone, LeavesWiped, bare_leaves, restarted_bare}
 
--- sessions none of which has begun, at each number
-get_or-absent : {X : Type 0} (n i : ℕ) (x : X) → get_or (replicate n x) i x ≡ x
-get_or-absent zero i x = refl
-get_or-absent (suc n) zero x = refl
-get_or-absent (suc n) (suc i) x = get_or-absent n i x
+-- ---- what a restart needs, besides
 
--- the world that has just opened with this journal stands for the start
-pub stands_opened : {S : Type 0} (g : Ghosts S) (d : S) (tree : Tree) (journal begun : JournalView) → tree ≡ empty_tree begun.volume → SameButSpare begun journal → IsKeptOn g (start begun).kept d
-    → Stands g (opened_world tree journal) d (start begun)
-stands_opened g d tree journal begun is same on = record {
-  service = record { epoch = refl; tree = is; moment = refl; journal = same; kept = on };
-  count = length-replicate session_count Absent;
-  state_count = length-replicate session_count meaning.Absent;
-  sessions = λ number. rw (get_or-absent session_count number Absent, get_or-absent session_count number meaning.Absent) tt;
+-- sessions and the moment don't matter
+recoverable_but : {S : Type 0} (g : Ghosts S) (d : S) (s : State) (moment : Moment) (sessions : List meaning.Session) → IsRecoverable g s d → IsRecoverable g (record s { moment = moment; sessions = sessions }) d
+recoverable_but g d s moment sessions r = record {
+  told = r.told;
+  legal = r.legal;
+  volume = r.volume;
+  cloud =
+      WhereTold-from (g.objects d) (IsBeside (record s { moment = moment; sessions = sessions }))
+      (λ objects held.
+      let b = WhereTold-at (g.objects d) (IsBeside s) objects held r.cloud in
+      record { no_checkpoint = b.no_checkpoint; covers = b.covers; tree = b.tree; epoch = b.epoch });
+  uncovered = r.uncovered;
+  begun = r.begun;
 }
+
+begins_on : (kept later : Kept) (objects : CloudMap) → SameBeginning kept later → Begins kept objects → Begins later objects
+begins_on kept later objects same begins = record {
+  no_checkpoint = begins.no_checkpoint;
+  covers = same.before ∙ begins.covers;
+  tree = same.tree ∙ begins.tree ∙ ap (λ (v : ℕ). cloud_tree v objects) (sym same.volume);
+}
+
+-- a step that is no restart
+module _ {S : Type 0} (g : Ghosts S) (d e : S) (s t : State) (f : InFrame) (outs : List OutFrame) (step : Step Scarce s f outs t) (stays : IsRestart f → ⊥) (is : IsRecoverable g s d) where
+  -- what crashes leave of its disk is what recovery finds
+  step_leaves : LeavesPrefix g d e s.kept.mark t.kept → LeavesFinding g d e s.kept.mark t.kept
+  step_leaves leaves =
+      leaves_finding g d e s.kept.mark t.kept (step_legal Scarce s t f outs step is.legal)
+      (WhereTold-from (g.objects d) (Begins t.kept)
+      (λ objects held. begins_on s.kept t.kept objects (step_begins_same Scarce s t f outs stays step) (begins_at s objects (WhereTold-at (g.objects d) (IsBeside s) objects held is.cloud)))) leaves
+
+  step_recoverable : IsKeptOn g s.kept d → SameCloud g d e → BothTold (λ old new. Unit {0}) (g.image d) (g.image e) → IsRecoverable g t e
+  step_recoverable on cloud both = recoverable_step g d e s t f outs step stays (record { least = on.least; most = on.most }) on.pending cloud both is
 
 -- a session, and the one that it stands for, put in the places of others
 pub stands_with : {S : Type 0} (g : Ghosts S) (d : S) (w : WorldView) (s : State) (number : ℕ) (slot : Session) (session : meaning.Session) → number < session_count → Stands g w d s → StandsFor slot session
     → Stands g (record w { sessions = set w.sessions number slot }) d (with_session s number session)
 stands_with g d w s number slot session lt stands for = record {
+  volume = stands.volume;
+  area = stands.area;
+  recoverable = recoverable_but g d s s.moment (set s.sessions number session) stands.recoverable;
   service = (let p = stands.service in record { epoch = p.epoch; tree = p.tree; moment = p.moment; journal = p.journal; kept = p.kept });
   count = length-set w.sessions number slot ∙ stands.count;
   state_count = length-set s.sessions number session ∙ stands.state_count;
@@ -88,12 +121,10 @@ closed_stands (Closed received) (meaning.Open stream) h = absurd h
 closed_stands (Closed received) meaning.Closed h = tt
 
 -- a step within which no call of the disk was made
-module _ {S : Type 0} (g : Ghosts S) (d : S) where
-  -- what comes of it beside the steps: nothing
-  nothing_happens : (s t : State) → t.kept ≡ s.kept → IsKeptOn g s.kept d
-      → WentOn g d d s.kept.mark t.kept × ((image : List ℕ) → WhereTold (g.image d) (λ read. g.may_leave d image → ReadsAsPrefix t.kept t.kept.mark image))
-  nothing_happens s t same on = subst (λ (k : Kept). WentOn g d d s.kept.mark k × ((image : List ℕ) → WhereTold (g.image d) (λ read. g.may_leave d image → ReadsAsPrefix k k.mark image))) (sym same)
-      (went_nowhere g s.kept d on, left_is_prefix g s.kept d on)
+nothing_happens : {S : Type 0} (g : Ghosts S) (w : WorldView) (d : S) (s t : State) (f : InFrame) (outs : List OutFrame) → Step Scarce s f outs t → (IsRestart f → ⊥) → t.kept ≡ s.kept → Stands g w d s
+    → LeavesFinding g d d s.kept.mark t.kept
+nothing_happens g w d s t f outs step stays same stands =
+    step_leaves g d d s t f outs step stays stands.recoverable (subst (λ (k : Kept). LeavesPrefix g d d s.kept.mark k) (sym same) (went_nowhere g s.kept d stands.service.kept).leaves)
 
 module _ {S : Type 0} (g : Ghosts S) (w : WorldView) (d e : S) (number : ℕ) (payload : List ℕ) (lt : number < session_count) (sink : SinkGot) where
   pub stepped_open : (received : Received) (later : ServiceView) (next : Session) → get_or w.sessions number Absent ≡ Open received → Handled g number w.service d received payload later e next sink
@@ -102,35 +133,51 @@ module _ {S : Type 0} (g : Ghosts S) (w : WorldView) (d e : S) (number : ℕ) (p
       let at = open_of received (session_at s number) (subst (λ (x : Session). StandsFor x (session_at s number)) slot (stands.sessions number)) in
       let h = handled s at.0 (omega (arith, stands.state_count, lt)) stands.service at.2 in
       let new : State = with_session (with_kept s h.1) number h.0 in
+      let step : Step Scarce s (Bytes number payload) h.2 new = subst (λ (x : meaning.Session). StepBytes Scarce x number payload s h.2 new) (sym at.1) h.5 in
+      let same = step_begins_same Scarce s new (Bytes number payload) h.2 (λ r. r) step in
+      let ready : IsRecoverable g new e = step_recoverable g d e s new (Bytes number payload) h.2 step (λ r. r) stands.recoverable stands.service.kept h.7.beside h.7.tells in
       let there : Stands g (record w { service = later }) e (with_kept s h.1) =
-      record { service = h.4; count = stands.count; state_count = stands.state_count; sessions = stands.sessions } in (
+      record {
+        volume = stands.volume ∙ sym same.volume;
+        area = stands.area ∙ sym same.size;
+        recoverable = recoverable_but g e new s.moment s.sessions ready;
+        service = h.4;
+        count = stands.count;
+        state_count = stands.state_count;
+        sessions = stands.sessions;
+      } in
+      let then : Stands g (record w { service = later; sessions = set w.sessions number next }) e new = stands_with g e (record w { service = later }) (with_kept s h.1) number next h.0 lt there h.3 in (
         h.2,
         new,
-        subst (λ (x : meaning.Session). StepBytes Scarce x number payload s h.2 new) (sym at.1) h.5,
-        stands_with g e (record w { service = later }) (with_kept s h.1) number next h.0 lt there h.3,
+        step,
+        then,
         h.6,
-        h.7,
-        left_is_prefix g h.1 e h.4.kept,
+        step_leaves g d e s new (Bytes number payload) h.2 step (λ r. r) stands.recoverable h.7.leaves,
+        stands_find g (record w { service = later; sessions = set w.sessions number next }) e new then,
       )
 
   -- the same, of the world that came of it
   pub stepped_fed : (received : Received) (new : WorldView) (next : Session) → get_or w.sessions number Absent ≡ Open received → Handled g number w.service d received payload new.service e next sink
-      → new.sessions ≡ set w.sessions number next → new.ended ≡ w.ended → Stepped g w d (Bytes number payload) new e sink
-  stepped_fed received new next slot handled sessions over =
-      let is : new ≡ (let v : WorldView = record w { service = new.service; sessions = set w.sessions number next } in v) = λ k. record { service = new.service; sessions = sessions k; ended = over k } in
+      → new.settings ≡ w.settings → new.sessions ≡ set w.sessions number next → new.ended ≡ w.ended → Stepped g w d (Bytes number payload) new e sink
+  stepped_fed received new next slot handled settings sessions over =
+      let v : WorldView = record w { service = new.service; sessions = set w.sessions number next } in
+      let is : new ≡ v = λ k. record { settings = settings k; service = new.service; sessions = sessions k; ended = over k } in
       subst (λ (v : WorldView). Stepped g w d (Bytes number payload) v e sink) (sym is) (stepped_open received new.service next slot handled)
 
   pub stepped_part : (received : Received) → get_or w.sessions number Absent ≡ Open received → HandledPart g number w.service d received payload e sink → SteppedPart g w d (Bytes number payload) e sink
   stepped_part received slot handled = λ s stands.
       let at = open_of received (session_at s number) (subst (λ (x : Session). StandsFor x (session_at s number)) slot (stands.sessions number)) in
       let h = handled s at.0 (omega (arith, stands.state_count, lt)) stands.service at.2 in
-      (h.0, h.1, subst (λ (x : meaning.Session). StepBytes Scarce x number payload s h.0 h.1) (sym at.1) h.2, h.3, h.4)
+      let step : Step Scarce s (Bytes number payload) h.0 h.1 = subst (λ (x : meaning.Session). StepBytes Scarce x number payload s h.0 h.1) (sym at.1) h.2 in
+      (h.0, h.1, step, h.3, step_leaves g d e s h.1 (Bytes number payload) h.0 step (λ r. r) stands.recoverable h.4)
 
   pub stepped_down : (received : Received) → get_or w.sessions number Absent ≡ Open received → HandledDown g number w.service d received payload e sink → SteppedDown g w d (Bytes number payload) e sink
   stepped_down received slot handled = λ s stands.
       let at = open_of received (session_at s number) (subst (λ (x : Session). StandsFor x (session_at s number)) slot (stands.sessions number)) in
       let h = handled s at.0 (omega (arith, stands.state_count, lt)) stands.service at.2 in
-      (h.0, h.1, h.2, h.3, subst (λ (x : meaning.Session). StepBytes Scarce x number (take h.0 payload) s (h.1 ++ h.2 ∷ []) h.3) (sym at.1) h.4, h.5, h.6)
+      let outs : List OutFrame = h.1 ++ h.2 ∷ [] in
+      let step : Step Scarce s (Bytes number (take h.0 payload)) outs h.3 = subst (λ (x : meaning.Session). StepBytes Scarce x number (take h.0 payload) s outs h.3) (sym at.1) h.4 in
+      (h.0, h.1, h.2, h.3, step, h.5, step_leaves g d e s h.3 (Bytes number (take h.0 payload)) outs step (λ r. r) stands.recoverable h.6)
 
 module _ {S : Type 0} (g : Ghosts S) (w : WorldView) (d : S) (told : Option (List ℕ)) where
   -- what a sink got that was given nothing
@@ -142,8 +189,8 @@ module _ {S : Type 0} (g : Ghosts S) (w : WorldView) (d : S) (told : Option (Lis
   stepped_passed number payload slot is closed = λ s stands.
       let same : set w.sessions number slot ≡ w.sessions = ap (λ (x : Session). set w.sessions number x) (sym is) ∙ set-get_or w.sessions number Absent in
       let pass = passed slot (session_at s number) number payload s closed (subst (λ (x : Session). StandsFor x (session_at s number)) is (stands.sessions number)) in
-      let happens = nothing_happens g d s s refl stands.service.kept in
-      ([], s, pass, subst (λ (ss : List Session). Stands g (with_sessions w ss) d s) (sym same) stands, Given-none told, happens.0, happens.1)
+      let then = subst (λ (ss : List Session). Stands g (with_sessions w ss) d s) (sym same) stands in
+      ([], s, pass, then, Given-none told, nothing_happens g w d s s (Bytes number payload) [] pass (λ r. r) refl stands, stands_find g (with_sessions w (set w.sessions number slot)) d s then)
 
   -- ---- the other frames
 
@@ -151,24 +198,37 @@ module _ {S : Type 0} (g : Ghosts S) (w : WorldView) (d : S) (told : Option (Lis
   pub stepped_begin : (number : ℕ) → number < session_count → Stepped g w d (Begin number) (with_sessions w (set w.sessions number (Open nothing))) d untouched
   stepped_begin number lt = λ s stands.
       let at : StandsAt nothing [] = record { bytes = tt; goes_on = tt; records = []; read = reads_nothing } in
-      let happens = nothing_happens g d s (with_session s number (meaning.Open [])) refl stands.service.kept in
-      ([], with_session s number (meaning.Open []), (refl, refl), stands_with g d w s number (Open nothing) (meaning.Open []) lt stands at, Given-none told, happens.0, happens.1)
+      let t : State = with_session s number (meaning.Open []) in
+      let then = stands_with g d w s number (Open nothing) (meaning.Open []) lt stands at in
+      ([], t, (refl, refl), then, Given-none told, nothing_happens g w d s t (Begin number) [] (refl, refl) (λ r. r) refl stands, stands_find g (with_sessions w (set w.sessions number (Open nothing))) d t then)
 
   -- a session ends
   pub stepped_close : (number : ℕ) → number < session_count
       → Stepped g w d (Close number) (with_sessions w (set w.sessions number (closed (get_or w.sessions number Absent)))) d untouched
   stepped_close number lt = λ s stands.
       let x : meaning.Session = meaning.ended (session_at s number) in
-      let happens = nothing_happens g d s (with_session s number x) refl stands.service.kept in
-      ([], with_session s number x, (refl, refl), stands_with g d w s number (closed (get_or w.sessions number Absent)) x lt stands (closed_stands (get_or w.sessions number Absent) (session_at s number) (stands.sessions number)), Given-none told, happens.0, happens.1)
+      let t : State = with_session s number x in
+      let next : Session = closed (get_or w.sessions number Absent) in
+      let then = stands_with g d w s number next x lt stands (closed_stands (get_or w.sessions number Absent) (session_at s number) (stands.sessions number)) in
+      ([], t, (refl, refl), then, Given-none told, nothing_happens g w d s t (Close number) [] (refl, refl) (λ r. r) refl stands, stands_find g (with_sessions w (set w.sessions number next)) d t then)
 
   -- a moment is set
   pub stepped_moment : (at : Moment) → Stepped g w d (SetMoment at) (record w { service = record w.service { moment = at } }) d untouched
   stepped_moment at = λ s stands.
       let p = stands.service in
       let t : State = record s { moment = at } in
-      let happens = nothing_happens g d s t refl p.kept in
-      ([], t, (refl, refl), record { service = record { epoch = p.epoch; tree = p.tree; moment = refl; journal = p.journal; kept = p.kept }; count = stands.count; state_count = stands.state_count; sessions = stands.sessions }, Given-none told, happens.0, happens.1)
+      let new : WorldView = record w { service = record w.service { moment = at } } in
+      let then : Stands g new d t =
+      record {
+        volume = stands.volume;
+        area = stands.area;
+        recoverable = recoverable_but g d s at s.sessions stands.recoverable;
+        service = record { epoch = p.epoch; tree = p.tree; moment = refl; journal = p.journal; kept = p.kept };
+        count = stands.count;
+        state_count = stands.state_count;
+        sessions = stands.sessions;
+      } in
+      ([], t, (refl, refl), then, Given-none told, nothing_happens g w d s t (SetMoment at) [] (refl, refl) (λ r. r) refl stands, stands_find g new d t then)
 
 -- ---- the numbers that are shown
 
@@ -184,19 +244,62 @@ stats_are g w d s stands area =
 
 pub stepped_stat : {S : Type 0} (g : Ghosts S) (w : WorldView) (d : S) (sink : SinkGot) → IsSome w.service.journal.newer → Given sink.before sink.after (out_frame (Counted (stats_shown w))) → Stepped g w d Stat w d sink
 stepped_stat g w d sink area given = λ s stands.
-    let happens = nothing_happens g d s s refl stands.service.kept in
+    let happens = nothing_happens g w d s s Stat (Counted (stats_of s) ∷ []) (refl, refl) (λ r. r) refl stands in
     let shown = subst (λ (x : Stats). Given sink.before sink.after (out_frame (Counted x))) (stats_are g w d s stands area) given in
-    (Counted (stats_of s) ∷ [], s, (refl, refl), stands, given_one sink.before sink.after (Counted (stats_of s)) shown, happens.0, happens.1)
+    (Counted (stats_of s) ∷ [], s, (refl, refl), stands, given_one sink.before sink.after (Counted (stats_of s)) shown, happens, stands_find g w d s stands)
 
 pub stepped_stat_part : {S : Type 0} (g : Ghosts S) (w : WorldView) (d : S) (sink : SinkGot) → IsSome w.service.journal.newer → GivenPart sink.before sink.after (out_frame (Counted (stats_shown w))) → SteppedPart g w d Stat d sink
 stepped_stat_part g w d sink area given = λ s stands.
-    let happens = nothing_happens g d s s refl stands.service.kept in
+    let happens = nothing_happens g w d s s Stat (Counted (stats_of s) ∷ []) (refl, refl) (λ r. r) refl stands in
     let shown = subst (λ (x : Stats). GivenPart sink.before sink.after (out_frame (Counted x))) (stats_are g w d s stands area) given in
-    (Counted (stats_of s) ∷ [], s, (refl, refl), given_part_one sink.before sink.after (Counted (stats_of s)) shown, happens.0.leaves)
+    (Counted (stats_of s) ∷ [], s, (refl, refl), given_part_one sink.before sink.after (Counted (stats_of s)) shown, happens)
 
 -- what stands for a state does so whether or not it has ended
 pub stepped_ended : {S : Type 0} (g : Ghosts S) (w v : WorldView) (d e : S) (f : InFrame) (sink : SinkGot) (over : Bool) → Stepped g w d f v e sink → Stepped g w d f (record v { ended = over }) e sink
 stepped_ended g w v d e f sink over stepped = λ s stands.
     let h = stepped s stands in
     let k = h.3 in
-    (h.0, h.1, h.2, record { service = k.service; count = k.count; state_count = k.state_count; sessions = k.sessions }, h.4, h.5, h.6)
+    (h.0, h.1, h.2, record { volume = k.volume; area = k.area; recoverable = k.recoverable; service = k.service; count = k.count; state_count = k.state_count; sessions = k.sessions }, h.4, h.5, h.6)
+
+-- ---- restarts
+
+module _ {S : Type 0} (g : Ghosts S) (old : WorldView) (s t : S) (found : Found) (opens : IsOpenOn g t found) (bytes : g.bytes_of t ≡ g.bytes_of s) (up : old.service.journal.down ≡ false) (sink : SinkGot) where
+  -- the site was opened again
+  module _ (is : IsFoundOn g old.settings.volume old.settings.journal_area s found) (claims : BothTold (λ old new. new ≡ claimed old) (g.objects s) (g.objects t)) (images : BothTold (λ old new. Unit {0}) (g.image s) (g.image t))
+      (leaves : LeavesFound g old.settings.volume old.settings.journal_area s t) where
+    pub stepped_restart : Given sink.before sink.after (out_frame (opening found)) → Stepped g old s Restart (reopened_world old found) t sink
+    stepped_restart given = λ state stands.
+        let r = restarted g old s t state stands found is opens claims images bytes up in (
+          opening found ∷ [],
+          r.0,
+          r.1,
+          r.2,
+          given_one sink.before sink.after (opening found) given,
+          restart_leaves g old s t state stands leaves,
+          stands_find g (reopened_world old found) t r.0 r.2,
+        )
+
+    pub stepped_restart_part : GivenPart sink.before sink.after (out_frame (opening found)) → SteppedPart g old s Restart t sink
+    stepped_restart_part given = λ state stands.
+        let r = restarted g old s t state stands found is opens claims images bytes up in
+        (opening found ∷ [], r.0, r.1, given_part_one sink.before sink.after (opening found) given, restart_leaves g old s t state stands leaves)
+
+  -- and before that the journal was given up
+  module _ (m : S) (wipes : LeavesWiped g old.service.journal s m) (holds : HoldsNone g old.service.journal s m) (beside : SameCloud g s m) (is : IsFoundOn g old.settings.volume old.settings.journal_area m found)
+      (claims : BothTold (λ old new. new ≡ claimed old) (g.objects m) (g.objects t)) (images : BothTold (λ old new. Unit {0}) (g.image m) (g.image t)) (leaves : LeavesFound g old.settings.volume old.settings.journal_area m t) where
+    pub stepped_bare : Given sink.before sink.after (out_frame (opening found)) → Stepped g old s RestartWithoutJournal (reopened_world old found) t sink
+    stepped_bare given = λ state stands.
+        let r = restarted_bare g old s m state stands wipes holds beside t found is opens claims images bytes up in (
+          opening found ∷ [],
+          r.0,
+          r.1,
+          r.2,
+          given_one sink.before sink.after (opening found) given,
+          bare_leaves g old s m state stands wipes holds beside t leaves,
+          stands_find g (reopened_world old found) t r.0 r.2,
+        )
+
+    pub stepped_bare_part : GivenPart sink.before sink.after (out_frame (opening found)) → SteppedPart g old s RestartWithoutJournal t sink
+    stepped_bare_part given = λ state stands.
+        let r = restarted_bare g old s m state stands wipes holds beside t found is opens claims images bytes up in
+        (opening found ∷ [], r.0, r.1, given_part_one sink.before sink.after (opening found) given, bare_leaves g old s m state stands wipes holds beside t leaves)

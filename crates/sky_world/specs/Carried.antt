@@ -15,6 +15,7 @@ use Rattle.sky_nfs.specs.declared.call.Change.{Change}
 use Rattle.sky_outside.specs.Moments.{SameCloud}
 use Rattle.sky_outside.specs.declared.storage.Storage.{Ghosts}
 use Rattle.sky_results.specs.Answers.{answer_bytes}
+use Rattle.sky_sound.specs.Entries.{IsStorable}
 use Rattle.sky_world.specs.Meaning.{journal_after_call, lacks_room, makes_stable}
 use Rattle.sky_world.specs.Service.{takes_some}
 use Rattle.sky_world.specs.World.{ServiceView, IsUp}
@@ -45,6 +46,7 @@ pub record Carries {S : Type 0} (g : Ghosts S) (old : ServiceView) (s : S) (chan
   pub serving : IsServing g new t
   pub leaves : LeavesOldOrMore g s t old.journal (entries_brought old.tree old.journal change)
   pub holds : HoldsMore g s t old.journal new.journal (entries_brought old.tree old.journal change)
+  pub storable : is_done old.tree change ≡ true → IsStorable change
   pub beside : SameCloud g s t
 
 -- all is as it was, but for the memory that the journal has
@@ -60,6 +62,7 @@ pub record Stays {S : Type 0} (old : ServiceView) (s : S) (new : ServiceView) (t
 pub record CarriesDown {S : Type 0} (g : Ghosts S) (old : ServiceView) (s : S) (change : Change) (t : S) : Type 0 where
   pub room : lacks_room old.tree old.journal change ≡ false
   pub leaves : LeavesOldOrMore g s t old.journal (entries_brought old.tree old.journal change)
+  pub storable : is_done old.tree change ≡ true → IsStorable change
 
 -- an answer is that to a COMMIT which is OK
 abbrev pub has_committed : Answer → Bool

@@ -1,10 +1,10 @@
 -- What the laws of recorded sessions speak of.
-use Rattle.std.specs.Prelude.{◌≡◌, ◌≤◌, ℕ, List, ◌++◌}
+use Rattle.std.specs.Prelude.{◌≡◌, ◌≤◌, ℕ, Bool, true, List, ◌++◌}
 use Rattle.std.specs.List.{AllByRecursion}
 use Rattle.sky_nfs.specs.History.{History, history_length}
 use Rattle.sky_nfs.specs.declared.call.Change.{Change}
 use Rattle.sky_rpc.specs.Reply.{reply_record}
-use Rattle.sky_script.specs.Frame.{OutFrame, Reply}
+use Rattle.sky_script.specs.Frame.{InFrame, Restart, RestartWithoutJournal, OutFrame, Reply}
 use Rattle.sky_world.specs.Meaning.{Kept}
 use Rattle.sky_world.specs.Service.{reply_without_memory}
 
@@ -20,6 +20,12 @@ NoneOutOfMemory outs = AllByRecursion (λ out. TellsOutOfMemory out → ⊥) out
 -- a history goes on from another: it has further changes behind the other's
 abbrev pub GoesOnFrom : History → History → Type 0
 GoesOnFrom old new = (more : List Change) × (new ≡ record old { changes = old.changes ++ more })
+
+-- What a frame leads to is known beforehand: it is no restart of a site that does not tell what it has.
+abbrev pub IsForeseen : Bool → InFrame → Type 0
+IsForeseen told Restart = told ≡ true
+IsForeseen told RestartWithoutJournal = told ≡ true
+IsForeseen told _ = Unit {0}
 
 -- the mark lies within the history
 pub record IsMarked (kept : Kept) : Type 0 where

@@ -2,6 +2,7 @@ pub mod Bytes
 pub mod Carried
 pub mod Disk
 pub mod Feeding
+pub mod Finding
 pub mod Laws
 pub mod Meaning
 pub mod Message

@@ -1,5 +1,5 @@
 -- What a recorded session means: how the frames that go in and those that come out belong together.
-use Rattle.std.specs.Prelude.{◌≡◌, ℕ, Bool, true, false, cond, ◌&&◌, ◌||◌, nat_lt, is_none, List, [], ◌∷◌, ◌++◌, length, Option, Some, None, replicate, slice_index_or, slice_set, MatchBool}
+use Rattle.std.specs.Prelude.{◌≡◌, ℕ, ◌+◌, ◌-◌, Bool, true, false, cond, ◌&&◌, ◌||◌, nat_lt, is_none, List, [], ◌∷◌, ◌++◌, length, Option, Some, None, replicate, slice_index_or, slice_set, take, MatchBool}
 use Rattle.sky_base.specs.declared.cred.Cred.{Cred}
 use Rattle.sky_base.specs.declared.moment.Moment.{Moment}
 use Rattle.sky_calls.specs.Durable.{journal_after}
@@ -10,8 +10,9 @@ use Rattle.sky_nfs.specs.Procedure.{refusal_of}
 use Rattle.sky_nfs.specs.declared.call.Call.{Call}
 use Rattle.sky_nfs.specs.declared.call.Call.TheVariants.{Commit}
 use Rattle.sky_nfs.specs.declared.call.Change.{Change}
-use Rattle.sky_nfs.specs.History.{History, history_length, last_tree, is_done}
-use Rattle.sky_nfs.specs.Tree.{Tree, empty_tree, epoch_start}
+use Rattle.sky_nfs.specs.History.{History, IsLegalHistory, history_length, last_tree, is_done}
+use Rattle.sky_nfs.specs.Tree.{Tree, epoch_start}
+use Rattle.sky_recover.specs.Opening.{Found}
 use Rattle.sky_record.specs.Stream.{Progress, TooLong, Received, Completes}
 use Rattle.sky_script.specs.Frame as frame
 use Rattle.sky_script.specs.Frame.{InFrame, OutFrame, Reply, Opened, Counted, session_count}
@@ -43,37 +44,21 @@ pub record State : Type 0 where
   -- the moment of the calls that follow
   pub moment : Moment
   pub sessions : List Session
+  -- whether the site tells what it has, so that it is known beforehand what an opening finds
+  pub told : Bool
 
--- the number of the first opening
-abbrev pub first_epoch : ℕ
-first_epoch = 1
+-- what is kept at an opening that found this: its history, all of which is on the disk
+abbrev pub kept_of : Found → Kept
+kept_of found = record { history = found.history; mark = history_length found.history; journal = found.journal }
 
--- a volume's journal with areas of this size, on a disk of that many bytes, that has just been begun: its first area is open, and has no
--- entries
-abbrev pub begun_journal : ℕ → ℕ → ℕ → JournalView
-begun_journal volume size disk = record {
-  volume = volume;
-  size = size;
-  disk = disk;
-  older = None;
-  newer = Some (new_area 0 0);
-  pending = [];
-  spare = 0;
-  down = false;
-}
+-- at an opening that found this no session has begun
+abbrev pub start : Bool → Found → State
+start told found = record { epoch = found.epoch; kept = kept_of found; moment = epoch_start; sessions = replicate session_count Absent; told = told }
 
--- at the opening over this journal: the first epoch, no changes of the empty tree, and no session has begun
-abbrev pub start : JournalView → State
-start journal = record {
-  epoch = first_epoch;
-  kept = record { history = record { before = 0; tree = empty_tree journal.volume; changes = [] }; mark = 0; journal = journal };
-  moment = epoch_start;
-  sessions = replicate session_count Absent;
-}
-
--- the frame of the opening: the first epoch, no changes, and none of them from the journal
-abbrev pub opening : OutFrame
-opening = Opened first_epoch 0 false
+-- the frame of the opening: its epoch, how many changes it found, and whether there are some that the cloud does not cover
+abbrev pub opening : Found → OutFrame
+opening found =
+    Opened found.epoch (history_length found.history) (nat_lt found.history.before (history_length found.history))
 
 -- what answers the calls: the epoch, the history's last tree, and the moment
 abbrev pub service_of : State → Service
@@ -247,6 +232,49 @@ StepBytes memory (Open stream) number payload old outs new =
 StepBytes memory Absent number payload old outs new = Passes old outs new
 StepBytes memory Closed number payload old outs new = Passes old outs new
 
+-- ---- restarts
+
+-- the history when this many changes were made
+abbrev pub cut_to : ℕ → History → History
+cut_to n history = record history { changes = take (n - history.before) history.changes }
+
+-- the journal as it is read again from its disk, where changes behind these ones are on it: nothing is pending
+abbrev pub unpended : JournalView → JournalView
+unpended journal = record journal { pending = [] }
+
+-- the journal where there are none: it is begun behind this many changes, in the area at the disk's start
+abbrev pub begun_behind : ℕ → JournalView → JournalView
+begun_behind covers journal = record journal { older = None; newer = Some (new_area 0 covers); pending = [] }
+
+-- a journal that has the changes up to a number, as it is opened again
+abbrev pub reopened : ℕ → ℕ → JournalView → JournalView
+reopened covers number journal = cond (nat_lt covers number) (unpended journal) (begun_behind covers journal)
+
+-- what an opening finds, where the changes up to a number are on the disk: they are the history, in the next epoch
+abbrev pub found_to : ℕ → State → Found
+found_to number old = record {
+  epoch = old.epoch + 1;
+  history = cut_to number old.kept.history;
+  journal = reopened old.kept.history.before number old.kept.journal;
+}
+
+-- it finds the changes up to the mark, and, without the journal, those that the cloud covers
+abbrev pub kept_found : State → Found
+kept_found old = found_to old.kept.mark old
+
+abbrev pub covered_found : State → Found
+covered_found old = found_to old.kept.history.before old
+
+-- From old, the proxy was opened again, and found this: it says so, and no session has begun. The moment stays.
+abbrev pub Reopens : State → Found → List OutFrame → State → Type 0
+Reopens old found outs new = (outs ≡ opening found ∷ []) × (new ≡ record (start old.told found) { moment = old.moment })
+
+-- What a restart finds: what is known to be there; and on a site that does not tell what it has, some legal history of the volume.
+pub data Restarts (old : State) (known : Found) (outs : List OutFrame) (new : State) : Type 0 where
+  as_known : old.told ≡ true → Reopens old known outs new → Restarts old known outs new
+  untold : (found : Found) → old.told ≡ false → IsLegalHistory found.history → found.history.tree.volume ≡ old.kept.journal.volume
+      → found.journal.volume ≡ old.kept.journal.volume → found.journal.size ≡ old.kept.journal.size → Reopens old found outs new → Restarts old known outs new
+
 -- one frame: from old, it is answered by these frames, and leads to new
 abbrev pub Step : Memory → State → InFrame → List OutFrame → State → Type 0
 -- a session begins anew, and its stream is empty
@@ -256,6 +284,10 @@ Step memory old (frame.Close number) outs new = (outs ≡ []) × (new ≡ with_s
 Step memory old (frame.SetMoment at) outs new = (outs ≡ []) × (new ≡ record old { moment = at })
 -- what the proxy has, as numbers
 Step memory old frame.Stat outs new = (outs ≡ Counted (stats_of old) ∷ []) × (new ≡ old)
+-- the proxy is stopped, and opened again: it has lost what was not on its disk
+Step memory old frame.Restart outs new = Restarts old (kept_found old) outs new
+-- the same, where all that is not in the cloud is given up
+Step memory old frame.RestartWithoutJournal outs new = Restarts old (covered_found old) outs new
 -- the end is not answered by a step
 Step memory old frame.End outs new = ⊥
 

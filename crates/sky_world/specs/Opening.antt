@@ -1,54 +1,72 @@
--- Which journals are opened, and what their disk then has.
-use Rattle.std.specs.Prelude.{◌≡◌, ◌⊎◌, ℕ, ◌*◌, ◌≤◌, Bool, true, false, List, [], length, None, Err, replicate}
+-- How a volume is opened.
+use Rattle.std.specs.Prelude.{◌≡◌, ℕ, ◌+◌, true, false, List, replicate}
+use Rattle.sky_base.specs.Limits.{max_number}
+use Rattle.sky_base.specs.declared.place.Lost.TheVariants as lost
 use Rattle.sky_base.specs.declared.status.Status.{Status}
-use Rattle.sky_base.specs.declared.status.Status.TheVariants.{Memory, JournalFault, Foreign}
-use Rattle.sky_outside.specs.Moments.{LeavesOnly, BesideObjects}
-use Rattle.sky_outside.specs.Told.{WhereTold}
-use Rattle.sky_outside.specs.declared.storage.Storage.{Ghosts}
-use Rattle.sky_journal.specs.Journal.{JournalView, ReadsAs}
-use Rattle.sky_journal.specs.Laid.{IsFree}
-use Rattle.sky_journal.specs.Text.{entries_of}
-use Rattle.sky_nfs.specs.Tree.{Tree, epoch_start}
+use Rattle.sky_base.specs.declared.status.Status.TheVariants.{Memory, JournalFault, CloudFault, Foreign, Missing, Damaged, Worn}
+use Rattle.sky_outside.specs.CloudMap.{CloudMap}
+use Rattle.sky_nfs.specs.History.{last_tree}
+use Rattle.sky_nfs.specs.Tree.{epoch_start}
+use Rattle.sky_recover.specs.declared.fault.OpenFault.{OpenFault}
+use Rattle.sky_recover.specs.declared.fault.OpenFault.TheVariants as fault
+use Rattle.sky_recover.specs.declared.fault.OpenFault.TheVariants.{DiskFault, Lost}
+use Rattle.sky_recover.specs.Opening.{Found}
+use Rattle.sky_recover.specs.Refusals.{IsRefusedBy}
 use Rattle.sky_script.specs.Frame.{session_count}
+use Rattle.sky_settings.specs.declared.settings.Fields.{Fields}
 use Rattle.sky_world.specs.declared.sessions.Session.TheVariants.{Absent}
-use Rattle.sky_world.specs.Meaning.{first_epoch}
+use Rattle.sky_world.specs.Meaning.{State}
 use Rattle.sky_world.specs.World.{WorldView}
 
--- a disk with a journal that is blank: there is room for two areas, and both are closed
-pub record IsBlank (size : ℕ) (image : List ℕ) : Type 0 where
-  pub fits : 2 * size ≤ length image
-  pub first : IsFree size 0 image
-  pub second : IsFree size size image
-
--- whatever the bytes of an entry are
-abbrev pub any_entry : List ℕ → Bool
-any_entry bytes = true
-
--- a disk with a journal that is not opened: it is no journal of the volume at this place, or one that is not blank, which is told as 0
-abbrev pub IsForeign : ℕ → ℕ → ℕ → List ℕ → Type 0
-IsForeign volume size at image = (entries_of any_entry volume size 0 image ≡ Err at) ⊎ ((at ≡ 0) × (IsBlank size image → ⊥))
-
--- from s to t a crash at any moment leaves the image of before, or one that reads as a journal with no entries
-abbrev pub LeavesBlank : {S : Type 0} → Ghosts S → ℕ → ℕ → S → S → Type 0
-LeavesBlank g volume size s t =
-    WhereTold (g.image s) (λ image. LeavesOnly g s t (BesideObjects g s (λ left. (left ≡ image) ⊎ ReadsAs volume size 0 [] left)))
-
--- a volume's journal with areas of this size, on a disk of that many bytes, of which no area is open
-abbrev pub closed_journal : ℕ → ℕ → ℕ → JournalView
-closed_journal volume size disk =
-    record { volume = volume; size = size; disk = disk; older = None; newer = None; pending = []; spare = 0; down = false }
-
--- the statuses of an opening that failed before it wrote
+-- the statuses of an opening that failed
 abbrev pub IsOfOpening : Status → Type 0
 IsOfOpening Memory = Unit {0}
 IsOfOpening JournalFault = Unit {0}
+IsOfOpening CloudFault = Unit {0}
 IsOfOpening (Foreign at) = Unit {0}
+IsOfOpening (Missing name) = Unit {0}
+IsOfOpening (Damaged name damage) = Unit {0}
+IsOfOpening Worn = Unit {0}
 IsOfOpening _ = ⊥
 
--- the world that has just opened with this tree and journal: no session has begun
-abbrev pub opened_world : Tree → JournalView → WorldView
-opened_world tree journal = record {
-  service = record { epoch = first_epoch; tree = tree; journal = journal; moment = epoch_start };
+-- the status of a run whose opening was refused
+abbrev pub status_of : OpenFault → Status
+status_of DiskFault = JournalFault
+status_of fault.CloudFault = CloudFault
+status_of fault.Memory = Memory
+status_of (fault.Foreign at) = Foreign at
+status_of (Lost (lost.Missing name)) = Missing name
+status_of (Lost (lost.Damaged name damage)) = Damaged name damage
+status_of fault.Worn = Worn
+
+-- why a site that tells what it has is refused with this status, if it blames that
+abbrev pub IsRefusedAs : (volume size : ℕ) → Status → List ℕ → CloudMap → Type 0
+IsRefusedAs volume size (Foreign at) image objects = IsRefusedBy volume size (fault.Foreign at) image objects
+IsRefusedAs volume size (Missing name) image objects = IsRefusedBy volume size (Lost (lost.Missing name)) image objects
+IsRefusedAs volume size (Damaged name damage) image objects = IsRefusedBy volume size (Lost (lost.Damaged name damage)) image objects
+IsRefusedAs volume size Worn image objects = IsRefusedBy volume size fault.Worn image objects
+IsRefusedAs volume size _ image objects = Unit {0}
+
+-- A restart may be refused with this status: where the site does not tell what it has; or since no epoch is left.
+abbrev pub MayRefuse : Status → State → Type 0
+MayRefuse (Foreign at) state = state.told ≡ false
+MayRefuse (Missing name) state = state.told ≡ false
+MayRefuse (Damaged name damage) state = state.told ≡ false
+MayRefuse Worn state = state.told ≡ true → state.epoch + 1 ≡ max_number
+MayRefuse _ state = Unit {0}
+
+-- the world over what an opening found, with these settings: no session has begun
+abbrev pub opened_world : Fields → Found → WorldView
+opened_world settings found = record {
+  settings = settings;
+  service = record { epoch = found.epoch; tree = last_tree found.history; journal = found.journal; moment = epoch_start };
   sessions = replicate session_count Absent;
   ended = false;
+}
+
+-- a world that was opened again, and found this: the moment and the settings stay, and no session has begun
+abbrev pub reopened_world : WorldView → Found → WorldView
+reopened_world old found = record old {
+  service = record { epoch = found.epoch; tree = last_tree found.history; journal = found.journal; moment = old.service.moment };
+  sessions = replicate session_count Absent;
 }

@@ -1,20 +1,27 @@
 -- What contracts see of the world, and which state it stands for.
-use Rattle.std.specs.Prelude.{◌≡◌, ℕ, Bool, false, List, [], ◌∷◌, ◌++◌, length, slice_index_or, take, Option, IsSome}
+use Rattle.std.specs.Prelude.{◌≡◌, ◌⊎◌, ℕ, ◌+◌, ◌<◌, ◌≤◌, Bool, false, ◌&&◌, List, [], ◌∷◌, ◌++◌, length, slice_index_or, take, Option, Some, None, IfSome, IsSome, is_some}
 use Rattle.sky_base.specs.declared.moment.Moment.{Moment}
-use Rattle.sky_journal.specs.Journal.{JournalView, SameButSpare, last_of, number_behind}
-use Rattle.sky_nfs.specs.History.{last_tree}
+use Rattle.sky_base.specs.declared.status.Status.{Status}
+use Rattle.sky_base.specs.declared.status.Status.TheVariants.{SinkFault, JournalFault, Memory, CloudFault, Foreign, Missing, Damaged, Worn}
+use Rattle.sky_journal.specs.Journal.{JournalView, SameButSpare, last_of, new_area, number_behind}
+use Rattle.sky_nfs.specs.History.{IsLegalHistory, last_tree}
 use Rattle.sky_nfs.specs.Tree.{Tree}
+use Rattle.sky_outside.specs.CloudMap.{CloudMap}
 use Rattle.sky_outside.specs.declared.storage.Storage.{Ghosts}
 use Rattle.sky_record.specs.Stream.{Received, IsOpen, Reads}
 use Rattle.sky_outside.specs.Told.{WhereTold, Given, GivenPart}
+use Rattle.sky_script.specs.Frame as frame
 use Rattle.sky_script.specs.Frame.{InFrame, Begin, Bytes, OutFrame, out_frames, session_count}
 use Rattle.sky_script.specs.declared.frame.Stats.{Stats}
+use Rattle.sky_settings.specs.declared.settings.Fields.{Fields}
+use Rattle.sky_sound.specs.Cloud.{checkpoint_in, cloud_tree, covers_of, epoch_after}
 use Rattle.sky_world.specs.declared.sessions.Session.{Session}
 use Rattle.sky_world.specs.declared.sessions.Session.TheVariants.{Absent, Open, Closed}
 use Rattle.sky_world.specs.Bytes.{AreBytes}
 use Rattle.sky_world.specs.Meaning as meaning
 use Rattle.sky_world.specs.Meaning.{State, session_at, Scarce, Step}
-use Rattle.sky_world.specs.Disk.{IsKeptOn, LeavesPrefix, ReadsAsPrefix, WentOn}
+use Rattle.sky_world.specs.Disk.{IsKeptOn}
+use Rattle.sky_world.specs.Finding.{FindsNow, LeavesFinding, floor_of, reached}
 
 -- what answers the calls, in the program: the number of this opening, the tree, the journal, and the moment
 pub record ServiceView : Type 0 where
@@ -26,6 +33,8 @@ pub record ServiceView : Type 0 where
 -- what the world is in. It has no history, but the tree that it leads to, and no streams, but what was received of the record
 -- under way in each session
 pub record WorldView : Type 0 where
+  -- which volume it is, and how large the areas of its journal are
+  pub settings : Fields
   -- what answers the calls: the tree is the last one of the history
   pub service : ServiceView
   pub sessions : List Session
@@ -72,8 +81,35 @@ StandsFor (Open received) (meaning.Open stream) = StandsAt received stream
 StandsFor (Closed received) meaning.Closed = Unit {0}
 StandsFor _ _ = ⊥
 
+-- whether a site tells what its disk and its cloud have
+abbrev pub tells : {S : Type 0} → Ghosts S → S → Bool
+tells g s = is_some (g.image s) && is_some (g.objects s)
+
+-- The cloud beside the journal of a state: it has no checkpoint of the proxy, it covers what came before the history, and the next epoch is
+-- the one behind that of the state.
+pub record IsBeside (state : State) (objects : CloudMap) : Type 0 where
+  pub no_checkpoint : checkpoint_in objects ≡ None
+  pub covers : state.kept.history.before ≡ covers_of objects
+  pub tree : state.kept.history.tree ≡ cloud_tree state.kept.journal.volume objects
+  pub epoch : epoch_after objects ≡ state.epoch + 1
+
+-- What a restart needs of a state and a site to find the history again.
+pub record IsRecoverable {S : Type 0} (g : Ghosts S) (state : State) (s : S) : Type 0 where
+  pub told : state.told ≡ tells g s
+  pub legal : IsLegalHistory state.kept.history
+  pub volume : state.kept.history.tree.volume ≡ state.kept.journal.volume
+  pub cloud : WhereTold (g.objects s) (IsBeside state)
+  -- of two open areas the older has a change that the cloud does not cover
+  pub uncovered : IfSome state.kept.journal.older (λ a. state.kept.history.before < a.last)
+  -- where all changes on the disk are covered, only the area at the disk's start is open, and it has no entries
+  pub begun : state.kept.mark ≤ state.kept.history.before
+      → (state.kept.journal.older ≡ None) × (state.kept.journal.newer ≡ Some (new_area 0 state.kept.history.before))
+
 -- On a site the world stands for the state.
 pub record Stands {S : Type 0} (g : Ghosts S) (world : WorldView) (s : S) (state : State) : Type 0 where
+  pub volume : world.settings.volume ≡ state.kept.journal.volume
+  pub area : world.settings.journal_area ≡ state.kept.journal.size
+  pub recoverable : IsRecoverable g state s
   pub service : ServesFor g world.service s state
   pub count : length world.sessions ≡ session_count
   pub state_count : length state.sessions ≡ session_count
@@ -85,32 +121,60 @@ pub record SinkGot : Type 0 where
   pub after : Option (List ℕ)
 
 -- In each state that the world stands for the frame has a step; the sink was given the frames that answer it, and the
--- world then stands for the state that it leads to. A crash at any moment of it leaves a prefix of the history that holds
--- the mark from before, and from now on one that holds the mark from after.
+-- world then stands for the state that it leads to. After a crash at any moment of it recovery finds a prefix of the history that holds
+-- the mark from before (where the journal is given up: what the cloud covers), and from its end on one that holds the mark from after.
 abbrev pub Stepped : {S : Type 0} → Ghosts S → WorldView → S → InFrame → WorldView → S → SinkGot → Type 0
 Stepped g old s f new t sink =
     (state : State) → Stands g old s state
     → (outs : List OutFrame) × (next : State) × Step Scarce state f outs next × Stands g new t next × Given sink.before sink.after (out_frames outs)
-    × WentOn g s t state.kept.mark next.kept × ((image : List ℕ) → WhereTold (g.image t) (λ read. g.may_leave t image → ReadsAsPrefix next.kept next.kept.mark image))
+    × LeavesFinding g s t (floor_of f state) (reached f state next) × FindsNow g t next.kept
 
 -- In each state that the world stands for the frame has a step; the sink was given a prefix of the frames that answer it,
--- and not all of them. A crash at any moment leaves a prefix of the history that holds the mark from before.
+-- and not all of them. What a crash leaves is as above.
 abbrev pub SteppedPart : {S : Type 0} → Ghosts S → WorldView → S → InFrame → S → SinkGot → Type 0
 SteppedPart g old s f t sink =
     (state : State) → Stands g old s state
     → (outs : List OutFrame) × (next : State) × Step Scarce state f outs next × GivenPart sink.before sink.after (out_frames outs)
-    × LeavesPrefix g s t state.kept.mark next.kept
+    × LeavesFinding g s t (floor_of f state) (reached f state next)
 
 -- A call of the disk failed in a record of a session. In each state that the world stands for the frame, cut behind this record, has
--- a step; the sink was given all of the answers but the one to this record. A crash at any moment leaves a prefix of the history
--- that holds the mark from before.
+-- a step; the sink was given all of the answers but the one to this record. After a crash at any moment recovery finds a prefix of the
+-- history that holds the mark from before.
 abbrev pub SteppedDown : {S : Type 0} → Ghosts S → WorldView → S → InFrame → S → SinkGot → Type 0
 SteppedDown g old s (Bytes number payload) t sink =
     (state : State) → Stands g old s state
     → (cut : ℕ) × (outs : List OutFrame) × (last : OutFrame) × (next : State) × Step Scarce state (Bytes number (take cut payload)) (outs ++ last ∷ []) next
-    × Given sink.before sink.after (out_frames outs) × LeavesPrefix g s t state.kept.mark next.kept
+    × Given sink.before sink.after (out_frames outs) × LeavesFinding g s t state.kept.mark next.kept
 SteppedDown g old s _ t sink = ⊥
+
+-- a restart
+abbrev pub IsRestart : InFrame → Type 0
+IsRestart frame.Restart = Unit {0}
+IsRestart frame.RestartWithoutJournal = Unit {0}
+IsRestart _ = ⊥
+
+-- A restart came to no end: nothing was written, and after a crash at any moment recovery finds a prefix of the history from before.
+pub record RestartFailed {S : Type 0} (g : Ghosts S) (old : WorldView) (s : S) (f : InFrame) (t : S) (sink : SinkGot) : Type 0 where
+  pub restart : IsRestart f
+  pub unwritten : sink.after ≡ sink.before
+  pub leaves : (state : State) → Stands g old s state → LeavesFinding g s t (floor_of f state) state.kept
 
 -- the frame begins a session that has not begun before
 abbrev pub BeginsFirst : WorldView → InFrame → Type 0
 BeginsFirst world f = (session : ℕ) × (f ≡ Begin session) × (slice_index_or world.sessions session Absent ≡ Absent)
+
+-- nothing was written, and the site is as it was
+abbrev pub DidNothing : {S : Type 0} → S → S → SinkGot → Type 0
+DidNothing s t sink = (sink.after ≡ sink.before) × (t ≡ s)
+
+-- what a step did that failed with this status
+abbrev pub StepFailed : {S : Type 0} → Ghosts S → Status → WorldView → S → InFrame → S → SinkGot → Type 0
+StepFailed g SinkFault old s f t sink = SteppedPart g old s f t sink
+StepFailed g JournalFault old s f t sink = SteppedDown g old s f t sink ⊎ RestartFailed g old s f t sink
+StepFailed g Memory old s f t sink = BeginsFirst old f × DidNothing s t sink ⊎ RestartFailed g old s f t sink
+StepFailed g CloudFault old s f t sink = RestartFailed g old s f t sink
+StepFailed g (Foreign at) old s f t sink = RestartFailed g old s f t sink
+StepFailed g (Missing name) old s f t sink = RestartFailed g old s f t sink
+StepFailed g (Damaged name damage) old s f t sink = RestartFailed g old s f t sink
+StepFailed g Worn old s f t sink = RestartFailed g old s f t sink
+StepFailed g _ old s f t sink = ⊥

@@ -11,8 +11,8 @@ mod sessions;
 mod world;
 
 pub use laws::{
-    cuts_do_not_matter, each_frame_has_one_step, each_recording_has_one_meaning,
-    the_mark_does_not_fall, there_is_one_history,
+    a_restart_shows_a_prefix, cuts_do_not_matter, each_frame_has_one_step,
+    each_recording_has_one_meaning, the_mark_does_not_fall, there_is_one_history,
 };
 pub use world::World;
 

@@ -123,6 +123,7 @@ fn write_called<D: Disk>(
     ensures fails { OnErr result (FailsCall D.Storage service.old disk.old xid procedure change.now.cred change.now.call disk.new) }
     ensures size { D.bytes_of disk.new ≡ D.bytes_of disk.old }
     ensures cause { Counts (D.disk_faults disk.old) (D.disk_faults disk.new) (IsErr result) }
+    ensures cloud { D.cloud_faults disk.new ≡ D.cloud_faults disk.old }
 {
     match service.answer(disk, change) {
         Outcome::Done(answer) => Ok(write_success(xid, &answer, buf)),
@@ -151,6 +152,7 @@ fn write_message<D: Disk>(
     ensures fails { OnErr result (FailsMessage D.Storage service.old disk.old message.entry disk.new) }
     ensures size { D.bytes_of disk.new ≡ D.bytes_of disk.old }
     ensures cause { Counts (D.disk_faults disk.old) (D.disk_faults disk.new) (IsErr result) }
+    ensures cloud { D.cloud_faults disk.new ≡ D.cloud_faults disk.old }
 {
     match message {
         Message::Close => Ok(None),
@@ -193,6 +195,7 @@ fn write_reply_to<D: Disk>(
     ensures fails { OnErr result (Fails D.Storage service.old disk.old text.now disk.new) }
     ensures size { D.bytes_of disk.new ≡ D.bytes_of disk.old }
     ensures cause { Counts (D.disk_faults disk.old) (D.disk_faults disk.new) (IsErr result) }
+    ensures cloud { D.cloud_faults disk.new ≡ D.cloud_faults disk.old }
 {
     let message = read_message(alloc, text);
     write_message(service, disk, message, buf)
@@ -215,6 +218,7 @@ fn write_reply_behind<D: Disk>(
     ensures fails { OnErr result (Fails D.Storage service.old disk.old text.now disk.new) }
     ensures size { D.bytes_of disk.new ≡ D.bytes_of disk.old }
     ensures cause { Counts (D.disk_faults disk.old) (D.disk_faults disk.new) (IsErr result) }
+    ensures cloud { D.cloud_faults disk.new ≡ D.cloud_faults disk.old }
 {
     write_reply_to(alloc, service, disk, text, &mut buf[HEADER_ROOM..])
 }
@@ -270,6 +274,7 @@ impl ReplyBuf {
         ensures fails { OnErr result (Fails D.Storage service.old disk.old text.now disk.new) }
         ensures size { D.bytes_of disk.new ≡ D.bytes_of disk.old }
         ensures cause { Counts (D.disk_faults disk.old) (D.disk_faults disk.new) (IsErr result) }
+        ensures cloud { D.cloud_faults disk.new ≡ D.cloud_faults disk.old }
     {
         match write_reply_behind(alloc, service, disk, text, &mut self.bytes) {
             Ok(wrote) => Ok(wrote),

@@ -1,22 +1,21 @@
 //! What answers the calls of a session.
 
-ghost use Rattle.std.specs.Prelude.{◌≡◌, ◌<◌, ◌≤◌, ◌^◌, false, true, IsTrue, is_none, length};
+ghost use Rattle.std.specs.Prelude.{◌≡◌, ◌⊎◌, ◌<◌, ◌≤◌, ◌^◌, ℕ, List, [], false, true, IsErr, IsTrue, OnOk, is_none, length};
 ghost use Rattle.sky_calls.specs.Durable.{is_down};
 ghost use Rattle.sky_entry.specs.Entry.{entry_bytes};
 ghost use Rattle.sky_nfs.specs.Calls.{is_change};
 ghost use Rattle.sky_outside.specs.Count.{Counts};
-ghost use Rattle.sky_journal.specs.Journal.{last_of, number_behind};
+ghost use Rattle.sky_outside.specs.Moments.{BesideObjects, LeavesOnly, NothingPending, SameCloud};
+ghost use Rattle.sky_outside.specs.Told.{BothTold, WhereTold};
+ghost use Rattle.sky_journal.specs.Journal.{Reads, StandsFor, last_of, number_behind, wiped, without_newer};
 ghost use Rattle.sky_nfs.specs.Tree.{epoch_start};
 ghost use Rattle.sky_world.specs.Carried.{Becomes, IsServing, has_committed};
 
 use sky_base::Moment;
 use sky_calls::{DurableTree, Outcome};
 use sky_nfs::{Answer, Change};
-use sky_outside::Disk;
+use sky_outside::{Disk, Failed};
 use std::marker::Model;
-
-/// The number of the first opening.
-pub const FIRST_EPOCH: u64 = 1;
 
 /// The moment before the first that is set: the beginning of 1970.
 const FIRST_MOMENT: Moment = Moment {
@@ -57,6 +56,14 @@ impl Service {
             files,
             moment: FIRST_MOMENT,
         }
+    }
+
+    /// What answers the calls after the site was opened again: these files, at this opening. The moment stays.
+    pub fn reopen(&mut self, epoch: u64, files: DurableTree)
+        ensures { self.new ≡ record { epoch = epoch; tree = files.tree; journal = files.journal; moment = self.old.moment } }
+    {
+        self.epoch = epoch;
+        self.files = files;
     }
 
     /// The moment of the calls that follow.
@@ -112,6 +119,7 @@ impl Service {
         ensures size { D.bytes_of disk.new ≡ D.bytes_of disk.old }
         ensures down { self.new.journal.down ≡ is_down result }
         ensures cause { Counts (D.disk_faults disk.old) (D.disk_faults disk.new) (IsTrue (is_down result)) }
+        ensures cloud { D.cloud_faults disk.new ≡ D.cloud_faults disk.old }
     {
         self.files.facts();
         let outcome = self.files.change(disk, self.epoch, change);
@@ -127,6 +135,7 @@ impl Service {
         ensures size { D.bytes_of disk.new ≡ D.bytes_of disk.old }
         ensures down { self.new.journal.down ≡ is_down result }
         ensures cause { Counts (D.disk_faults disk.old) (D.disk_faults disk.new) (IsTrue (is_down result)) }
+        ensures cloud { D.cloud_faults disk.new ≡ D.cloud_faults disk.old }
     {
         self.files.facts();
         let Ok(answer) = self
@@ -157,11 +166,30 @@ impl Service {
         ensures size { D.bytes_of disk.new ≡ D.bytes_of disk.old }
         ensures down { self.new.journal.down ≡ is_down result }
         ensures cause { Counts (D.disk_faults disk.old) (D.disk_faults disk.new) (IsTrue (is_down result)) }
+        ensures cloud { D.cloud_faults disk.new ≡ D.cloud_faults disk.old }
     {
         if change.call.changes() {
             self.change(disk, change)
         } else {
             self.look(disk, change)
         }
+    }
+
+    /// Gives up all that the journal has, on its disk too (what `Journal::wipe` says holds of it). The tree stays.
+    pub fn wipe<D: Disk>(&mut self, disk: &mut D) -> Result<(), Failed>
+        requires serving { IsServing D.Storage self.old disk.old }
+        ensures leaves { WhereTold (D.image disk.old) (λ image. (older newer : List (List ℕ)) → StandsFor self.old.journal image older newer
+            → LeavesOnly D.Storage disk.old disk.new (BesideObjects D.Storage disk.old
+            (λ left. Reads self.old.journal older newer left ⊎ Reads (without_newer self.old.journal) [] older left ⊎ Reads (wiped self.old.journal) [] [] left))) }
+        ensures holds { OnOk result (BothTold (λ old new. (older newer : List (List ℕ)) → StandsFor self.old.journal old older newer
+            → StandsFor (wiped self.old.journal) new [] []) (D.image disk.old) (D.image disk.new)) }
+        ensures durable { OnOk result (NothingPending D.Storage disk.new) }
+        ensures rest { (self.new.epoch ≡ self.old.epoch) × (self.new.tree ≡ self.old.tree) × (self.new.moment ≡ self.old.moment) }
+        ensures beside { SameCloud D.Storage disk.old disk.new }
+        ensures size { D.bytes_of disk.new ≡ D.bytes_of disk.old }
+        ensures cause { Counts (D.disk_faults disk.old) (D.disk_faults disk.new) (IsErr result) }
+        ensures cloud { D.cloud_faults disk.new ≡ D.cloud_faults disk.old }
+    {
+        self.files.wipe(disk)
     }
 }

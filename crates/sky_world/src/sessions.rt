@@ -103,4 +103,13 @@ impl Sessions {
     {
         self.sessions[number as usize] = session;
     }
+
+    /// Gives all sessions up: none has begun.
+    pub fn forget(&mut self)
+        ensures { self.new ≡ replicate session_count Session.Absent }
+    {
+        for session in self.sessions.iter_mut() {
+            *session = Session::Absent;
+        }
+    }
 }

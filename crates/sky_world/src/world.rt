@@ -1,9 +1,9 @@
 //! What the proxy is in between two frames, and what a frame does to it.
 
-ghost use Rattle.std.specs.Prelude.{◌≡◌, ◌<◌, ◌≤◌, ◌^◌, ◌⊎◌, ℕ, Bool, true, false, List, [], Option, length, take, IfOk, IfErr, OnOk, OnErr, IsErr, IsErrOf, is_err, is_some, slice_index_or, slice_set};
-ghost use Rattle.sky_nfs.specs.Tree.{empty_tree};
+ghost use Rattle.std.specs.Prelude.{◌≡◌, ◌<◌, ◌≤◌, ◌^◌, ◌⊎◌, ℕ, Bool, true, false, List, [], Option, length, take, IfOk, IfErr, OnOk, OnErr, IsErr, IsErrOf, is_err, is_some, slice_index_or, slice_set, replicate};
+ghost use Rattle.sky_nfs.specs.Tree.{epoch_start};
 ghost use Rattle.sky_outside.specs.Count.{Counts};
-ghost use Rattle.sky_outside.specs.Moments.{NothingPending, SameCloud};
+ghost use Rattle.sky_outside.specs.Moments.{NothingPending};
 ghost use Rattle.sky_outside.specs.Told.{BothTold, Given, GivenPart, WhereTold};
 ghost use Rattle.sky_record.specs.Stream.{Received, IsOpen, nothing};
 ghost use Rattle.sky_script.specs.Frame as frames;
@@ -11,24 +11,25 @@ ghost use Rattle.sky_script.specs.Frame.{IsInFrame, out_frame, out_frames, sessi
 ghost use Rattle.sky_script.specs.Values.{frame_of};
 ghost use Rattle.sky_world.specs.Carried.{IsServing};
 ghost use Rattle.sky_world.specs.Feeding.{Answers, Fails, Feeds, FeedFails, Handled, HandledPart, HandledDown};
-ghost use Rattle.sky_world.specs.Meaning.{start as opened, begun_journal, opening, frame_for, IsStep};
-ghost use Rattle.sky_world.specs.Opening.{IsForeign, IsOfOpening, LeavesBlank, opened_world};
+ghost use Rattle.sky_recover.specs.Opening.{Found, IsFoundOn, IsOpenOn, LeavesFound, WhereBothTold};
+ghost use Rattle.sky_sound.specs.Boot.{claimed};
+ghost use Rattle.sky_world.specs.Meaning.{State, start as started, opening, frame_for, IsStep};
+ghost use Rattle.sky_world.specs.Opening.{IsOfOpening, IsRefusedAs, MayRefuse, reopened_world};
 ghost use Rattle.sky_world.specs.Sessions.{IsReady, closed};
 ghost use Rattle.sky_world.specs.declared.sessions.Session.{Session};
-ghost use Rattle.sky_world.specs.World.{ServiceView, Stands, Stepped, SteppedPart, SteppedDown, BeginsFirst, stats_shown};
+ghost use Rattle.sky_world.specs.World.{ServiceView, Stands, StepFailed, Stepped, SteppedPart, SteppedDown, IsRestart, stats_shown, tells};
 
-use crate::opening::open_journal;
+use crate::opening::open_site;
 use crate::reply::ReplyBuf;
-use crate::service::{FIRST_EPOCH, Service};
+use crate::service::Service;
 use crate::sessions::{Session, Sessions};
 use sky_base::{Moment, NoMemory, Status};
 use sky_calls::DurableTree;
-use sky_journal::Journal;
 use sky_outside::{Disk, Failed, Sink, Site};
 use sky_record::{Assembler, Fed};
+use sky_recover::Opened;
 use sky_script::{Frame, OutFrame, Stats, write_out_frame};
 use sky_settings::Settings;
-use sky_tree::Tree;
 use std::alloc::Global;
 use std::marker::Model;
 
@@ -56,6 +57,7 @@ fn answer_record<D: Disk, K: Sink>(
     ensures statuses { IfErr result (λ status. (status ≡ Status.JournalFault) ⊎ (status ≡ Status.SinkFault)) }
     ensures size { D.bytes_of disk.new ≡ D.bytes_of disk.old }
     ensures disk_cause { Counts (D.disk_faults disk.old) (D.disk_faults disk.new) (IsErrOf result Status.JournalFault) }
+    ensures cloud { D.cloud_faults disk.new ≡ D.cloud_faults disk.old }
     ensures cause { Counts (K.faults sink.old) (K.faults sink.new) (IsErrOf result Status.SinkFault) }
 {
     match buf.write(alloc, service, disk, text) {
@@ -100,6 +102,7 @@ fn feed_once<D: Disk, K: Sink>(
     ensures statuses { IfErr result (λ status. (status ≡ Status.JournalFault) ⊎ (status ≡ Status.SinkFault)) }
     ensures size { D.bytes_of disk.new ≡ D.bytes_of disk.old }
     ensures disk_cause { Counts (D.disk_faults disk.old) (D.disk_faults disk.new) (IsErrOf result Status.JournalFault) }
+    ensures cloud { D.cloud_faults disk.new ≡ D.cloud_faults disk.old }
     ensures cause { Counts (K.faults sink.old) (K.faults sink.new) (IsErrOf result Status.SinkFault) }
 {
     let (taken, fed) = assembler.feed(piece);
@@ -147,6 +150,7 @@ fn feed_payload<D: Disk, K: Sink>(
     ensures statuses { IfErr result (λ status. (status ≡ Status.JournalFault) ⊎ (status ≡ Status.SinkFault)) }
     ensures size { D.bytes_of disk.new ≡ D.bytes_of disk.old }
     ensures disk_cause { Counts (D.disk_faults disk.old) (D.disk_faults disk.new) (IsErrOf result Status.JournalFault) }
+    ensures cloud { D.cloud_faults disk.new ≡ D.cloud_faults disk.old }
     ensures cause { Counts (K.faults sink.old) (K.faults sink.new) (IsErrOf result Status.SinkFault) }
 {
     let mut taken = 0;
@@ -180,6 +184,7 @@ fn feed_payload<D: Disk, K: Sink>(
 /// first begins, and is used again when it begins anew.
 #[derive(Drop)]
 pub struct World {
+    settings: Settings,
     service: Service,
     sessions: Sessions,
     buf: ReplyBuf,
@@ -191,36 +196,59 @@ impl Model for World {
 
     ghost Value = { WorldView };
 
-    ghost view = { λ w. record { service = w.service; sessions = w.sessions; ended = w.ended } };
+    ghost view = { λ w. record { settings = w.settings; service = w.service; sessions = w.sessions; ended = w.ended } };
 }
 
-/// A world over files that were opened, in the first epoch.
-fn over(alloc: Global, files: DurableTree) -> Result<World, NoMemory>
-    ensures { IfOk result (λ world. world ≡ opened_world files.tree files.journal) }
+/// A world over files that were opened, in this epoch.
+fn over(
+    alloc: Global,
+    settings: Settings,
+    epoch: u64,
+    files: DurableTree,
+) -> Result<World, NoMemory>
+    ensures { IfOk result (λ world. world ≡ record {
+      settings = settings;
+      service = record { epoch = epoch; tree = files.tree; journal = files.journal; moment = epoch_start };
+      sessions = replicate session_count Session.Absent;
+      ended = false;
+    }) }
 {
     Ok(World {
-        service: Service::new(FIRST_EPOCH, files),
+        settings,
+        service: Service::new(epoch, files),
         sessions: Sessions::new(alloc)?,
         buf: ReplyBuf::new(alloc)?,
         ended: false,
     })
 }
 
-/// A world over the empty tree of a volume and this journal.
-fn over_journal(alloc: Global, volume: u64, journal: Journal) -> Result<World, NoMemory>
-    requires { volume ≤ 2 ^ 62 }
-    ensures { IfOk result (λ world. world ≡ opened_world (empty_tree volume) journal) }
+/// Writes the frame of an opening.
+fn tell_opened<K: Sink>(sink: &mut K, opened: Opened) -> Result<(), Status>
+    ensures ok { OnOk result (Given (K.written sink.old) (K.written sink.new) (out_frame (frames.Opened opened.epoch opened.k opened.journal))) }
+    ensures partly { IsErrOf result Status.SinkFault
+        → GivenPart (K.written sink.old) (K.written sink.new) (out_frame (frames.Opened opened.epoch opened.k opened.journal)) }
+    ensures statuses { IfErr result (λ status. status ≡ Status.SinkFault) }
+    ensures cause { Counts (K.faults sink.old) (K.faults sink.new) (IsErrOf result Status.SinkFault) }
 {
-    let tree = Tree::empty(alloc, volume)?;
-    over(alloc, DurableTree::new(alloc, tree, journal))
+    let frame = OutFrame::Opened {
+        epoch: opened.epoch,
+        changes: opened.k,
+        journal: opened.journal,
+    };
+    match write_out_frame(sink, &frame) {
+        Ok(()) => Ok(()),
+        Err(Failed) => Err(Status::SinkFault),
+    }
 }
 
 impl World {
-    /// Opens a journal that is blank, in the first epoch: the empty tree, no changes, and no session has begun. The journal's first area is
-    /// open then. Writes the frame that says so.
+    /// Opens a site, whatever it has: claims the next epoch in the cloud, reads the journal and does its changes again. No session has
+    /// begun. Writes the frame that says which epoch it is and how many changes were found. Nothing that was written to the disk may wait for a
+    /// sync then.
     ///
-    /// `Foreign` where the journal is not blank, with the place on the disk; `JournalFault` where a call of the disk failed; `Memory`
-    /// where there is no memory for the journal, the empty tree, the buffer of a reply and the list of sessions. Nothing is written to
+    /// `JournalFault` and `CloudFault` where a call of the disk or of the cloud failed; `Damaged` where the cloud has a checkpoint, as they are not
+    /// read yet; `Worn` where no epoch is left; `Foreign` where the disk is not a journal of the volume, with the place; `Memory` where
+    /// there is no memory for the journal, the tree, the buffer of a reply and the list of sessions. Nothing is written to
     /// the sink then. `SinkFault` where a write failed; the sink was given a prefix of the frame then.
     pub fn start<S: Site, K: Sink>(
         alloc: Global,
@@ -230,40 +258,35 @@ impl World {
     ) -> Result<World, Status>
         requires settled { NothingPending S.Storage site.old }
 
-        ensures world { IfOk result (λ world. Stands S.Storage world site.new (opened (begun_journal settings.volume settings.journal_area (S.bytes_of site.old)))) }
+        // The world stands for the history that the site stood for, and says so.
+        ensures world { IfOk result (λ world. (found : Found) × IsFoundOn S.Storage settings.volume settings.journal_area site.old found
+            × Stands S.Storage world site.new (started (tells S.Storage site.old) found)
+            × Given (K.written sink.old) (K.written sink.new) (out_frame (opening found))) }
         ensures going { IfOk result (λ world. world.ended ≡ false) }
         ensures serving { IfOk result (λ world. IsServing S.Storage world.service site.new) }
-        ensures ok { OnOk result (Given (K.written sink.old) (K.written sink.new) (out_frame opening)) }
         ensures unwritten { IfErr result (λ status. IsOfOpening status → sink.new ≡ sink.old) }
-        ensures partly { IsErrOf result Status.SinkFault
-            → GivenPart (K.written sink.old) (K.written sink.new) (out_frame opening) }
+        ensures partly { IsErrOf result Status.SinkFault → (found : Found) × IsFoundOn S.Storage settings.volume settings.journal_area site.old found
+            × GivenPart (K.written sink.old) (K.written sink.new) (out_frame (opening found)) }
 
-        // What is not blank is not opened, and a crash at any moment leaves what was there or a journal that has no entries.
-        ensures foreign { (at : ℕ) → IsErrOf result (Status.Foreign at) → WhereTold (S.image site.old) (IsForeign settings.volume settings.journal_area at) }
-        ensures any_moment { LeavesBlank S.Storage settings.volume settings.journal_area site.old site.new }
-        ensures tells { OnOk result (BothTold (λ old new. Unit {0}) (S.image site.old) (S.image site.new)) }
+        // After a crash at any moment recovery finds the same as before.
+        ensures any_moment { LeavesFound S.Storage settings.volume settings.journal_area site.old site.new }
+        // The epoch is claimed in the cloud.
+        ensures claims { OnOk result (BothTold (λ old new. new ≡ claimed old) (S.objects site.old) (S.objects site.new)) }
 
+        // Each refusal has its cause on the site.
+        ensures refused { IfErr result (λ status. WhereBothTold S.Storage site.old (IsRefusedAs settings.volume settings.journal_area status)) }
         ensures statuses { IfErr result (λ status. IsOfOpening status ⊎ (status ≡ Status.SinkFault)) }
-        ensures beside { SameCloud S.Storage site.old site.new }
         ensures size { S.bytes_of site.new ≡ S.bytes_of site.old }
         ensures disk_cause { Counts (S.disk_faults site.old) (S.disk_faults site.new) (IsErrOf result Status.JournalFault) }
-        ensures cloud { S.cloud_faults site.new ≡ S.cloud_faults site.old }
+        ensures cloud_cause { Counts (S.cloud_faults site.old) (S.cloud_faults site.new) (IsErrOf result Status.CloudFault) }
         ensures cause { Counts (K.faults sink.old) (K.faults sink.new) (IsErrOf result Status.SinkFault) }
     {
-        let (volume, area) = (settings.volume(), settings.journal_area());
-        let journal = open_journal(alloc, site, volume, area)?;
-        let Ok(world) = over_journal(alloc, volume, journal) else {
+        let (files, opened) = open_site(alloc, site, &settings)?;
+        let Ok(world) = over(alloc, settings, opened.epoch, files) else {
             return Err(Status::Memory);
         };
-        let frame = OutFrame::Opened {
-            epoch: FIRST_EPOCH,
-            changes: 0,
-            journal: false,
-        };
-        match write_out_frame(sink, &frame) {
-            Ok(()) => Ok(world),
-            Err(Failed) => Err(Status::SinkFault),
-        }
+        tell_opened(sink, opened)?;
+        Ok(world)
     }
 
     /// Begins a session anew: its stream is empty. Where there is no memory for its buffer, it is its first time, and
@@ -313,6 +336,7 @@ impl World {
         ensures statuses { IfErr result (λ status. (status ≡ Status.JournalFault) ⊎ (status ≡ Status.SinkFault)) }
         ensures size { D.bytes_of disk.new ≡ D.bytes_of disk.old }
         ensures disk_cause { Counts (D.disk_faults disk.old) (D.disk_faults disk.new) (IsErrOf result Status.JournalFault) }
+        ensures cloud { D.cloud_faults disk.new ≡ D.cloud_faults disk.old }
         ensures cause { Counts (K.faults sink.old) (K.faults sink.new) (IsErrOf result Status.SinkFault) }
     {
         match self.sessions.take(session) {
@@ -343,6 +367,7 @@ impl World {
             (record { before = K.written sink.old; after = K.written sink.new })
             × (self.new.sessions ≡ slice_set self.old.sessions session next)) }
         ensures over { self.new.ended ≡ self.old.ended }
+        ensures settings { self.new.settings ≡ self.old.settings }
         ensures serving { OnOk result (IsServing D.Storage self.new.service disk.new) }
         ensures partly { IsErrOf result Status.SinkFault → HandledPart D.Storage session self.old.service disk.old assembler payload.now disk.new
             (record { before = K.written sink.old; after = K.written sink.new }) }
@@ -351,6 +376,7 @@ impl World {
         ensures statuses { IfErr result (λ status. (status ≡ Status.JournalFault) ⊎ (status ≡ Status.SinkFault)) }
         ensures size { D.bytes_of disk.new ≡ D.bytes_of disk.old }
         ensures disk_cause { Counts (D.disk_faults disk.old) (D.disk_faults disk.new) (IsErrOf result Status.JournalFault) }
+        ensures cloud { D.cloud_faults disk.new ≡ D.cloud_faults disk.old }
         ensures cause { Counts (K.faults sink.old) (K.faults sink.new) (IsErrOf result Status.SinkFault) }
     {
         let (service, buf) = (&mut self.service, &mut self.buf);
@@ -400,30 +426,102 @@ impl World {
         }
     }
 
+    /// Opens the site again: the files are those that are found there, in the next epoch, and no session has begun. The moment stays.
+    fn reopen<S: Site>(&mut self, alloc: Global, site: &mut S) -> Result<Opened, Status>
+        requires settled { NothingPending S.Storage site.old }
+        ensures found { IfOk result (λ opened. (found : Found)
+            × IsFoundOn S.Storage self.old.settings.volume self.old.settings.journal_area site.old found × IsOpenOn S.Storage site.new found
+            × (self.new ≡ reopened_world self.old found) × (opening found ≡ frames.Opened opened.epoch opened.k opened.journal)) }
+        ensures err { OnErr result (self.new ≡ self.old) }
+        ensures any_moment { LeavesFound S.Storage self.old.settings.volume self.old.settings.journal_area site.old site.new }
+        ensures claims { OnOk result (BothTold (λ old new. new ≡ claimed old) (S.objects site.old) (S.objects site.new)) }
+        ensures tells { OnOk result (BothTold (λ old new. Unit {0}) (S.image site.old) (S.image site.new)) }
+        ensures refused { IfErr result (λ status. WhereBothTold S.Storage site.old
+            (IsRefusedAs self.old.settings.volume self.old.settings.journal_area status)) }
+        ensures statuses { IfErr result IsOfOpening }
+        ensures size { S.bytes_of site.new ≡ S.bytes_of site.old }
+        ensures disk_cause { Counts (S.disk_faults site.old) (S.disk_faults site.new) (IsErrOf result Status.JournalFault) }
+        ensures cloud_cause { Counts (S.cloud_faults site.old) (S.cloud_faults site.new) (IsErrOf result Status.CloudFault) }
+    {
+        let (files, opened) = open_site(alloc, site, &self.settings)?;
+        self.service.reopen(opened.epoch, files);
+        self.sessions.forget();
+        Ok(opened)
+    }
+
+    /// Does a frame 20: opens the site again, and says what was found.
+    fn restart<S: Site, K: Sink>(
+        &mut self,
+        alloc: Global,
+        site: &mut S,
+        sink: &mut K,
+    ) -> Result<(), Status>
+        requires serving { IsServing S.Storage self.old.service site.old }
+        ensures ok { OnOk result (Stepped S.Storage self.old site.old frames.Restart self.new site.new
+            (record { before = K.written sink.old; after = K.written sink.new })) }
+        ensures serving { OnOk result (IsServing S.Storage self.new.service site.new) }
+        ensures failed { IfErr result (λ status. StepFailed S.Storage status self.old site.old frames.Restart site.new
+            (record { before = K.written sink.old; after = K.written sink.new })) }
+        ensures refused { IfErr result (λ status. (state : State) → Stands S.Storage self.old site.old state → MayRefuse status state) }
+        ensures statuses { IfErr result (λ status. IsOfOpening status ⊎ (status ≡ Status.SinkFault)) }
+        ensures size { S.bytes_of site.new ≡ S.bytes_of site.old }
+        ensures disk_cause { Counts (S.disk_faults site.old) (S.disk_faults site.new) (IsErrOf result Status.JournalFault) }
+        ensures cloud_cause { Counts (S.cloud_faults site.old) (S.cloud_faults site.new) (IsErrOf result Status.CloudFault) }
+        ensures cause { Counts (K.faults sink.old) (K.faults sink.new) (IsErrOf result Status.SinkFault) }
+    {
+        let opened = self.reopen(alloc, site)?;
+        tell_opened(sink, opened)
+    }
+
+    /// Does a frame 21: gives up what the journal has, opens the site again, and says what was found.
+    fn restart_without_journal<S: Site, K: Sink>(
+        &mut self,
+        alloc: Global,
+        site: &mut S,
+        sink: &mut K,
+    ) -> Result<(), Status>
+        requires serving { IsServing S.Storage self.old.service site.old }
+        ensures ok { OnOk result (Stepped S.Storage self.old site.old frames.RestartWithoutJournal self.new site.new
+            (record { before = K.written sink.old; after = K.written sink.new })) }
+        ensures serving { OnOk result (IsServing S.Storage self.new.service site.new) }
+        ensures failed { IfErr result (λ status. StepFailed S.Storage status self.old site.old frames.RestartWithoutJournal site.new
+            (record { before = K.written sink.old; after = K.written sink.new })) }
+        ensures refused { IfErr result (λ status. (state : State) → Stands S.Storage self.old site.old state → MayRefuse status state) }
+        ensures statuses { IfErr result (λ status. IsOfOpening status ⊎ (status ≡ Status.SinkFault)) }
+        ensures size { S.bytes_of site.new ≡ S.bytes_of site.old }
+        ensures disk_cause { Counts (S.disk_faults site.old) (S.disk_faults site.new) (IsErrOf result Status.JournalFault) }
+        ensures cloud_cause { Counts (S.cloud_faults site.old) (S.cloud_faults site.new) (IsErrOf result Status.CloudFault) }
+        ensures cause { Counts (K.faults sink.old) (K.faults sink.new) (IsErrOf result Status.SinkFault) }
+    {
+        if self.service.wipe(site).is_err() {
+            return Err(Status::JournalFault);
+        }
+        let opened = self.reopen(alloc, site)?;
+        tell_opened(sink, opened)
+    }
+
     /// Does one frame, and writes its answers.
-    fn do_frame<D: Disk, K: Sink>(
+    fn do_frame<S: Site, K: Sink>(
         &mut self,
         alloc: Global,
         frame: &Frame<'_>,
-        disk: &mut D,
+        site: &mut S,
         sink: &mut K,
     ) -> Result<(), Status>
         requires formed { IsInFrame (frame_of frame.now) }
         requires step { IsStep (frame_of frame.now) }
-        requires serving { IsServing D.Storage self.old.service disk.old }
-        ensures ok { OnOk result (Stepped D.Storage self.old disk.old (frame_of frame.now) self.new disk.new
+        requires serving { IsServing S.Storage self.old.service site.old }
+        ensures ok { OnOk result (Stepped S.Storage self.old site.old (frame_of frame.now) self.new site.new
             (record { before = K.written sink.old; after = K.written sink.new })) }
-        ensures serving { OnOk result (IsServing D.Storage self.new.service disk.new) }
-        ensures memory { IsErrOf result Status.Memory → BeginsFirst self.old (frame_of frame.now) }
-        ensures unwritten { IsErrOf result Status.Memory → sink.new ≡ sink.old }
-        ensures unchanged { IsErrOf result Status.Memory → (self.new ≡ self.old) × (disk.new ≡ disk.old) }
-        ensures partly { IsErrOf result Status.SinkFault
-            → SteppedPart D.Storage self.old disk.old (frame_of frame.now) disk.new (record { before = K.written sink.old; after = K.written sink.new }) }
-        ensures fails { IsErrOf result Status.JournalFault
-            → SteppedDown D.Storage self.old disk.old (frame_of frame.now) disk.new (record { before = K.written sink.old; after = K.written sink.new }) }
-        ensures statuses { IfErr result (λ status. (status ≡ Status.Memory) ⊎ (status ≡ Status.SinkFault) ⊎ (status ≡ Status.JournalFault)) }
-        ensures size { D.bytes_of disk.new ≡ D.bytes_of disk.old }
-        ensures disk_cause { Counts (D.disk_faults disk.old) (D.disk_faults disk.new) (IsErrOf result Status.JournalFault) }
+        ensures serving { OnOk result (IsServing S.Storage self.new.service site.new) }
+        ensures failed { IfErr result (λ status. StepFailed S.Storage status self.old site.old (frame_of frame.now) site.new
+            (record { before = K.written sink.old; after = K.written sink.new })) }
+        ensures unchanged { IsErrOf result Status.Memory → (IsRestart (frame_of frame.now) → ⊥) → self.new ≡ self.old }
+        ensures refused { IfErr result (λ status. (state : State) → Stands S.Storage self.old site.old state → MayRefuse status state) }
+        ensures statuses { IfErr result (λ status. IsOfOpening status ⊎ (status ≡ Status.SinkFault)) }
+        ensures size { S.bytes_of site.new ≡ S.bytes_of site.old }
+        ensures disk_cause { Counts (S.disk_faults site.old) (S.disk_faults site.new) (IsErrOf result Status.JournalFault) }
+        ensures cloud_cause { Counts (S.cloud_faults site.old) (S.cloud_faults site.new) (IsErrOf result Status.CloudFault) }
         ensures cause { Counts (K.faults sink.old) (K.faults sink.new) (IsErrOf result Status.SinkFault) }
     {
         match frame {
@@ -431,7 +529,7 @@ impl World {
                 Ok(()) => Ok(()),
                 Err(NoMemory) => Err(Status::Memory),
             },
-            Frame::Bytes { session, payload } => self.feed(alloc, *session, payload, disk, sink),
+            Frame::Bytes { session, payload } => self.feed(alloc, *session, payload, site, sink),
             Frame::Close { session } => {
                 self.close(*session);
                 Ok(())
@@ -441,17 +539,21 @@ impl World {
                 Ok(())
             }
             Frame::Stat => self.tell(sink),
+            Frame::Restart => self.restart(alloc, site, sink),
+            Frame::RestartWithoutJournal => self.restart_without_journal(alloc, site, sink),
             Frame::End => unreachable!(),
         }
     }
 
     /// Does one frame, and writes the frames that answer it. Each record of a session that ends in the frame is answered,
-    /// and only then the next is looked at; a change that is stable is on the disk before its reply is written. It ends the world where it
-    /// answers an error. The site is the one over which the world was opened, with which nothing else was done since.
+    /// and only then the next is looked at; a change that is stable is on the disk before its reply is written. A restart opens the site
+    /// again, with no session and without what was not on the disk. It ends the world where it answers an error. The site is the one over which
+    /// the world was opened, with which nothing else was done since.
     ///
     /// `Memory` where a session begins for the first time and there is no memory for its buffer; nothing is written then,
     /// and nothing else has changed. `SinkFault` where a write failed; the sink was given a prefix of the answers then. `JournalFault` where a
-    /// call of the disk failed in a record; the sink was given the answers to the records before it.
+    /// call of the disk failed in a record; the sink was given the answers to the records before it. A restart answers besides what an
+    /// opening does, and nothing was written then.
     pub fn step<S: Site, K: Sink>(
         &mut self,
         alloc: Global,
@@ -464,24 +566,25 @@ impl World {
         requires going { self.old.ended ≡ false }
         requires serving { IsServing S.Storage self.old.service site.old }
 
-        // The frame has a step, in each state that the world stands for. The world then stands for the state after it. A crash at any
-        // moment of the step leaves a prefix of the history that holds the mark from before, and from its end on one that holds the
+        // The frame has a step, in each state that the world stands for. The world then stands for the state after it. After a crash at any
+        // moment of the step recovery finds a prefix of the history that holds the mark from before, and from its end on one that holds the
         // mark from after.
         ensures ok { OnOk result (Stepped S.Storage self.old site.old (frame_of frame.now) self.new site.new
             (record { before = K.written sink.old; after = K.written sink.new })) }
         ensures serving { OnOk result (IsServing S.Storage self.new.service site.new) }
 
-        ensures memory { IsErrOf result Status.Memory → BeginsFirst self.old (frame_of frame.now) }
-        ensures unwritten { IsErrOf result Status.Memory → sink.new ≡ sink.old }
-        ensures unchanged { IsErrOf result Status.Memory → (self.new ≡ record self.old { ended = true }) × (site.new ≡ site.old) }
-        ensures partly { IsErrOf result Status.SinkFault
-            → SteppedPart S.Storage self.old site.old (frame_of frame.now) site.new (record { before = K.written sink.old; after = K.written sink.new }) }
-        ensures fails { IsErrOf result Status.JournalFault
-            → SteppedDown S.Storage self.old site.old (frame_of frame.now) site.new (record { before = K.written sink.old; after = K.written sink.new }) }
-        ensures statuses { IfErr result (λ status. (status ≡ Status.Memory) ⊎ (status ≡ Status.SinkFault) ⊎ (status ≡ Status.JournalFault)) }
+        // What was done and written where it failed, by the status, and what a crash then leaves.
+        ensures failed { IfErr result (λ status. StepFailed S.Storage status self.old site.old (frame_of frame.now) site.new
+            (record { before = K.written sink.old; after = K.written sink.new })) }
+        ensures unchanged { IsErrOf result Status.Memory → (IsRestart (frame_of frame.now) → ⊥) → self.new ≡ record self.old { ended = true } }
+
+        // A restart refuses no site that tells what it has, unless no epoch is left.
+        ensures refused { IfErr result (λ status. (state : State) → Stands S.Storage self.old site.old state → MayRefuse status state) }
+        ensures statuses { IfErr result (λ status. IsOfOpening status ⊎ (status ≡ Status.SinkFault)) }
         ensures ended { self.new.ended ≡ is_err result }
         ensures size { S.bytes_of site.new ≡ S.bytes_of site.old }
         ensures disk_cause { Counts (S.disk_faults site.old) (S.disk_faults site.new) (IsErrOf result Status.JournalFault) }
+        ensures cloud_cause { Counts (S.cloud_faults site.old) (S.cloud_faults site.new) (IsErrOf result Status.CloudFault) }
         ensures cause { Counts (K.faults sink.old) (K.faults sink.new) (IsErrOf result Status.SinkFault) }
     {
         let outcome = self.do_frame(alloc, frame, site, sink);

@@ -363,12 +363,18 @@ fn calls_are_answered_in_one_tree(rt: HostRuntime) -> Result<(), Fail> {
     Ok(())
 }
 
-/// That the next frame has these numbers, and the first epoch. What follows it.
-fn counted<'a>(rt: &impl Abort, rest: &'a [u8], history: u64, mark: u64) -> Result<&'a [u8], Fail> {
+/// That the next frame has these numbers of changes, of those that are stable, and of the epoch. What follows it.
+fn counted<'a>(
+    rt: &impl Abort,
+    rest: &'a [u8],
+    history: u64,
+    mark: u64,
+    epoch: u64,
+) -> Result<&'a [u8], Fail> {
     let mut rest = rest
         .strip_prefix(b"\x10\0\0\0\0\0\0\0\x40")
         .ok_or("no numbers")?;
-    for wanted in [history, mark, 1, 0, 0, 0, 0, 0] {
+    for wanted in [history, mark, epoch, 0, 0, 0, 0, 0] {
         let (number, next) = rest.split_first_chunk::<8>().ok_or("cut")?;
         assert_eq!(rt; u64::from_be_bytes(*number), wanted, "of {history} {mark}");
         rest = next;
@@ -385,11 +391,165 @@ fn what_is_stable_is_shown(rt: HostRuntime) -> Result<(), Fail> {
         put_frame(&mut bytes, (16, 0, &[]))?;
     }
     let answers = replayed(alloc, bytes)?;
-    let mut rest = counted(&rt, &answers, 0, 0)?;
+    let mut rest = counted(&rt, &answers, 0, 0, 1)?;
     for (_, _, history, mark) in &COUNTS {
         rest = reply(rest)?.1;
-        rest = counted(&rt, rest, *history, *mark)?;
+        rest = counted(&rt, rest, *history, *mark, 1)?;
     }
+    Ok(())
+}
+
+/// READ from 0 on, and what it gives: nothing, and `hello`.
+const FROM_START: Piece<'static> = (b"\0\0\0\0\0\0\0\0\0\0\0\x10", 1);
+
+const NOTHING: Answer<'static> = (0, 104, 92, &[(b"\0\0\0\0\0\0\0\x01\0\0\0\0", 1)]);
+
+const HELLO: Answer<'static> = (
+    0,
+    112,
+    92,
+    &[(b"\0\0\0\x05\0\0\0\x01\0\0\0\x05hello\0\0\0", 1)],
+);
+
+/// CREATE of `a`; and WRITE of `hello`, UNSTABLE, in the first epoch.
+const CREATED: Row = (8, &[ROOT, A, UNCHECKED, KEEP], (0, 232, 4, &[SOME, NODE_2]));
+
+const WRITTEN: Row = (
+    7,
+    &[NODE_2, UNSTABLE],
+    (0, 136, 120, &[(b"\0\0\0\x05\0\0\0\0\0\0\0\0\0\0\0\x01", 1)]),
+);
+
+/// Both, and READ.
+static UNCOMMITTED: [Row; 3] = [CREATED, WRITTEN, (6, &[NODE_2, FROM_START], HELLO)];
+
+/// Behind a restart: the file is empty.
+static LOST: [Row; 1] = [(6, &[NODE_2, FROM_START], NOTHING)];
+
+/// Both, and then COMMIT.
+static COMMITTED: [Row; 3] = [
+    CREATED,
+    WRITTEN,
+    (
+        21,
+        &[NODE_2, WHOLE],
+        (0, 128, 120, &[(b"\0\0\0\0\0\0\0\x01", 1)]),
+    ),
+];
+
+/// Behind a restart: the file has `hello`, and the verifier of a WRITE is the second epoch.
+static FOUND: [Row; 2] = [
+    (6, &[NODE_2, FROM_START], HELLO),
+    (
+        7,
+        &[NODE_2, UNSTABLE],
+        (0, 136, 120, &[(b"\0\0\0\x05\0\0\0\0\0\0\0\0\0\0\0\x02", 1)]),
+    ),
+];
+
+/// Adds a session with these calls.
+fn put_rows(alloc: Global, bytes: &mut Vec<u8>, rows: &[Row]) -> Result<(), Fail> {
+    put_frame(bytes, (1, 0, &[]))?;
+    for (procedure, args, _) in rows {
+        put_call(alloc, bytes, NFS, *procedure, args)?;
+    }
+    Ok(())
+}
+
+/// That the calls are answered so. What follows the answers.
+fn rows_answered<'a>(
+    rt: &impl Abort,
+    alloc: Global,
+    mut rest: &'a [u8],
+    rows: &[Row],
+) -> Result<&'a [u8], Fail> {
+    for (_, _, wanted) in rows {
+        rest = answered(rt, alloc, rest, *wanted)?;
+    }
+    Ok(rest)
+}
+
+/// That the next frame is that of an opening in the second epoch, which found so many changes in the journal. What follows it.
+fn reopened<'a>(rt: &impl Abort, rest: &'a [u8], changes: u8) -> Result<&'a [u8], Fail> {
+    let (frame, rest) = rest.split_at_checked(29).ok_or("no opening")?;
+    let journal = u8::from(changes > 0);
+    let head = b"\x13\0\0\0\0\0\0\0\x14\0\0\0\0\0\0\0\x02\0\0\0\0\0\0\0";
+    assert!(rt; frame.starts_with(head), "not so: {frame:?}");
+    assert!(rt;
+        frame.ends_with(&[changes, 0, 0, 0, journal]),
+        "not so: {frame:?}"
+    );
+    Ok(rest)
+}
+
+/// That a restart between these calls finds so many changes.
+fn restarted(
+    rt: &impl Abort,
+    alloc: Global,
+    before: &[Row],
+    changes: u8,
+    behind: &[Row],
+) -> Result<(), Fail> {
+    let mut bytes = recording(alloc, &[])?;
+    put_rows(alloc, &mut bytes, before)?;
+    put_frame(&mut bytes, (20, 0, &[]))?;
+    put_rows(alloc, &mut bytes, behind)?;
+    let answers = replayed(alloc, bytes)?;
+    let rest = rows_answered(rt, alloc, &answers, before)?;
+    let rest = reopened(rt, rest, changes)?;
+    let rest = rows_answered(rt, alloc, rest, behind)?;
+    assert_eq!(rt; rest.len(), 21);
+    Ok(())
+}
+
+#[test]
+fn a_restart_finds_what_is_stable(rt: HostRuntime) -> Result<(), Fail> {
+    let alloc = rt.alloc();
+    restarted(&rt, alloc, &UNCOMMITTED, 1, &LOST)?;
+    restarted(&rt, alloc, &COMMITTED, 2, &FOUND)
+}
+
+/// A restart without the journal gives up the file `a`, which was there: NFS3ERR_EXIST is 17.
+#[test]
+fn a_restart_without_the_journal_finds_nothing(rt: HostRuntime) -> Result<(), Fail> {
+    let alloc = rt.alloc();
+    let mut bytes = recording(alloc, &[])?;
+    put_rows(alloc, &mut bytes, &UNCOMMITTED[..1])?;
+    put_frame(&mut bytes, (16, 0, &[]))?;
+    put_call(alloc, &mut bytes, NFS, 8, &[ROOT, A, SOME, KEEP])?;
+    put_frame(&mut bytes, (21, 0, &[]))?;
+    put_frame(&mut bytes, (16, 0, &[]))?;
+    let answers = replayed(alloc, bytes)?;
+    let rest = rows_answered(&rt, alloc, &answers, &UNCOMMITTED[..1])?;
+    let rest = counted(&rt, rest, 1, 1, 1)?;
+    let rest = answered(&rt, alloc, rest, (17, 120, 0, &[]))?;
+    let rest = reopened(&rt, rest, 0)?;
+    let rest = counted(&rt, rest, 0, 0, 2)?;
+    assert_eq!(rt; rest.len(), 21);
+    Ok(())
+}
+
+/// What was stable in one run is found by the next over the same site.
+#[test]
+fn the_next_run_finds_what_was_stable(rt: HostRuntime) -> Result<(), Fail> {
+    let alloc = rt.alloc();
+    let mut site = new_site(alloc)?;
+    let mut first = recording(alloc, &[])?;
+    put_rows(alloc, &mut first, &COMMITTED)?;
+    put_frame(&mut first, (99, 0, &[]))?;
+    let mut source = source_of(alloc, &first, &[])?;
+    let (status, _) = replay_over(alloc, &mut source, &mut site, &[])?;
+    assert_eq!(rt; status, Status::Done);
+    let mut next = recording(alloc, &[])?;
+    put_rows(alloc, &mut next, &FOUND)?;
+    put_frame(&mut next, (99, 0, &[]))?;
+    let mut source = source_of(alloc, &next, &[])?;
+    let (status, sink) = replay_over(alloc, &mut source, &mut site, &[])?;
+    assert_eq!(rt; status, Status::Done);
+    let (_, rest) = sink.bytes().split_at_checked(8).ok_or("no magic")?;
+    let rest = reopened(&rt, rest, 2)?;
+    let rest = rows_answered(&rt, alloc, rest, &FOUND)?;
+    assert_eq!(rt; rest.len(), 21);
     Ok(())
 }
 
@@ -402,8 +562,9 @@ fn a_disk_fails_in_a_change(rt: HostRuntime) -> Result<(), Fail> {
     let mut bytes = recording(alloc, &[(1, 0, &[]), (2, 0, &calls)])?;
     put_frame(&mut bytes, (99, 0, &[]))?;
     let mut source = source_of(alloc, &bytes, &[])?;
-    // The opening is two reads, and two writes with a sync each; so is a change, without the reads.
-    let mut site = failing_site(alloc, DISK_BYTES, 10)?;
+    // Behind the opening a change is two writes with a sync each.
+    let second = opening_calls(alloc)?.saturating_add(4);
+    let mut site = failing_site(alloc, second, false)?;
     let (status, sink) = replay_over(alloc, &mut source, &mut site, &[])?;
     assert_eq!(rt; status, Status::JournalFault);
     let (_, answers) = sink.bytes().split_at_checked(37).ok_or("no opening")?;

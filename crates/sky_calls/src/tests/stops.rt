@@ -168,7 +168,7 @@ fn play(
     Ok(())
 }
 
-/// Does the rows.
+/// Does the rows, and then wipes the journal.
 fn play_all(
     rt: &impl Abort,
     alloc: Global,
@@ -181,6 +181,8 @@ fn play_all(
     for row in &ROWS {
         play(rt, alloc, durable, site, *row)?;
     }
+    durable.wipe(site).ok().ok_or("a wipe")?;
+    assert_eq!(rt; left_by(alloc, site, site.calls(), 0)?, 0);
     Ok(())
 }
 

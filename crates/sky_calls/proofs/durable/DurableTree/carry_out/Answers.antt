@@ -28,7 +28,7 @@ returns-in_default-clause-any_moment g c =
 pub keep-kept-requires-clause-framed : goal.keep-kept-requires-clause-framed
 keep-kept-requires-clause-framed g c =
     let is : c.as_slice.result.now ≡ entry_bytes c.args.change.now =
-    c.as_slice.ensures.value ∙ ok_at c.encode.result (c.encode.new.entry.items ≡ entry_bytes c.args.change.now) c.encode.ensures c.if-is_err-2.ensures.value in
+    c.as_slice.ensures.value ∙ ok_at c.encode.result (c.encode.new.entry.items ≡ entry_bytes c.args.change.now) c.encode.ensures.written c.if-is_err-2.ensures.value in
     subst IsFramed (sym is) (entry_framed c.args.change.now c.requires.small)
 
 pub keep-kept-requires-clause-stands : goal.keep-kept-requires-clause-stands
@@ -39,7 +39,7 @@ keep-kept-requires-clause-stands g c =
 pub returns-then-is_err-3-clause-any_moment : goal.returns-then-is_err-3-clause-any_moment
 returns-then-is_err-3-clause-any_moment g c =
     let is : c.as_slice.result.now ≡ entry_bytes c.args.change.now =
-    c.as_slice.ensures.value ∙ ok_at c.encode.result (c.encode.new.entry.items ≡ entry_bytes c.args.change.now) c.encode.ensures c.if-is_err-2.ensures.value in
+    c.as_slice.ensures.value ∙ ok_at c.encode.result (c.encode.new.entry.items ≡ entry_bytes c.args.change.now) c.encode.ensures.written c.if-is_err-2.ensures.value in
     moments_spare g.D.Storage c.args.disk.now c.keep-kept.new.disk c.args.self.now.journal c.reserve.new.self (entry_bytes c.args.change.now)
     (subst (λ (v : DurableView). SameButSpare v.journal c.reserve.new.self) c.self.view_is c.reserve.ensures.same)
     (subst (λ (e : List ℕ). LeavesOldOrAll g.D.Storage c.args.disk.now c.keep-kept.new.disk c.reserve.new.self e) is c.keep-kept.ensures.any_moment)
@@ -53,7 +53,7 @@ returns-clause-tree g c =
 pub returns-clause-any_moment : goal.returns-clause-any_moment
 returns-clause-any_moment g c =
     let is : c.as_slice.result.now ≡ entry_bytes c.args.change.now =
-    c.as_slice.ensures.value ∙ ok_at c.encode.result (c.encode.new.entry.items ≡ entry_bytes c.args.change.now) c.encode.ensures c.if-is_err-2.ensures.value in
+    c.as_slice.ensures.value ∙ ok_at c.encode.result (c.encode.new.entry.items ≡ entry_bytes c.args.change.now) c.encode.ensures.written c.if-is_err-2.ensures.value in
     moments_spare g.D.Storage c.args.disk.now c.keep-kept.new.disk c.args.self.now.journal c.reserve.new.self (entry_bytes c.args.change.now)
     (subst (λ (v : DurableView). SameButSpare v.journal c.reserve.new.self) c.self.view_is c.reserve.ensures.same)
     (subst (λ (e : List ℕ). LeavesOldOrAll g.D.Storage c.args.disk.now c.keep-kept.new.disk c.reserve.new.self e) is c.keep-kept.ensures.any_moment)
@@ -77,7 +77,7 @@ returns-in_default-clause-stands g c is =
 pub returns-clause-holds : goal.returns-clause-holds
 returns-clause-holds g c =
     let is : c.as_slice.result.now ≡ entry_bytes c.args.change.now =
-    c.as_slice.ensures.value ∙ ok_at c.encode.result (c.encode.new.entry.items ≡ entry_bytes c.args.change.now) c.encode.ensures c.if-is_err-2.ensures.value in
+    c.as_slice.ensures.value ∙ ok_at c.encode.result (c.encode.new.entry.items ≡ entry_bytes c.args.change.now) c.encode.ensures.written c.if-is_err-2.ensures.value in
     let holds = ok_at c.keep-kept.result (HoldsMore g.D.Storage c.args.disk.now c.keep-kept.new.disk c.reserve.new.self c.keep-kept.new.journal (entries_kept c.is_stable.result c.reserve.new.self c.as_slice.result.now)) c.keep-kept.ensures.holds c.if-is_err-3.ensures.value in
     holds_spare c.args.self.now.journal c.reserve.new.self c.keep-kept.new.journal (entries_kept (is_stable_call c.args.change.now.call) c.args.self.now.journal (entry_bytes c.args.change.now))
     (g.D.Storage.image c.args.disk.now) (g.D.Storage.image c.keep-kept.new.disk)
@@ -90,7 +90,7 @@ returns-clause-holds g c =
 pub returns-clause-durable : goal.returns-clause-durable
 returns-clause-durable g c stable =
     let is : c.as_slice.result.now ≡ entry_bytes c.args.change.now =
-    c.as_slice.ensures.value ∙ ok_at c.encode.result (c.encode.new.entry.items ≡ entry_bytes c.args.change.now) c.encode.ensures c.if-is_err-2.ensures.value in
+    c.as_slice.ensures.value ∙ ok_at c.encode.result (c.encode.new.entry.items ≡ entry_bytes c.args.change.now) c.encode.ensures.written c.if-is_err-2.ensures.value in
     let lasts = ok_at c.keep-kept.result (c.is_stable.result ≡ true → Lasts g.D.Storage c.args.disk.now c.keep-kept.new.disk c.reserve.new.self c.as_slice.result.now) c.keep-kept.ensures.durable c.if-is_err-3.ensures.value in
     lasts_spare g.D.Storage c.args.disk.now c.keep-kept.new.disk c.args.self.now.journal c.reserve.new.self (entry_bytes c.args.change.now)
     (subst (λ (v : DurableView). SameButSpare v.journal c.reserve.new.self) c.self.view_is c.reserve.ensures.same)

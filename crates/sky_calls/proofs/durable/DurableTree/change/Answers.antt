@@ -85,3 +85,9 @@ returns-clause-tried g c is =
     let room = c.room-room.ensures ∙ ap (λ (j : JournalView). room_of j) journal in
     let wanted = c.wanted-wanted.ensures ∙ ap (λ n. wanted_of c.self.inside.journal n) c.entry_length.ensures ∙ ap (λ (j : JournalView). wanted_of j (length (entry_bytes c.args.change.now))) journal in
     (done ∙ c.if-not-is_ok.false, subst (λ (n : ℕ). n ≤ room_of c.args.self.now.journal) wanted (subst (λ (n : ℕ). c.wanted-wanted.result ≤ n) room c.if-wanted-room.false))
+
+pub returns-then-not-is_ok-clause-formed : goal.returns-then-not-is_ok-clause-formed
+returns-then-not-is_ok-clause-formed g c is =
+    let done = done_known c.self.inside.tree c.args.self.now.tree c.args.epoch c.args.change.now c.in-Ok.answer c.is_ok.result c.requires.changes
+    (ap (λ (v : DurableView). v.tree) c.self.view_is) c.in-Ok.ensures.answer c.is_ok.ensures in
+    not_both (is_done c.args.self.now.tree c.args.change.now) c.is_ok.result done is c.if-not-is_ok.true

@@ -1,5 +1,5 @@
 use Rattle.std.proofs.Common.{sym}
-use Rattle.sky_script.specs.Frame.{Begin, Bytes, Close, Stat, End, parts_of}
+use Rattle.sky_script.specs.Frame.{Begin, Bytes, Close, Stat, Restart, RestartWithoutJournal, End, parts_of}
 use Rattle.sky_script.proofs.FrameLaws.{length-frame, length-in_moment}
 use Rattle.sky_script.proofs.frame.Frame.length.Goals as goal
 
@@ -17,6 +17,12 @@ returns-in-SetMoment c = rw c.in-SetMoment.is (sym (length-in_moment c.in-SetMom
 
 pub returns-in-Stat : goal.returns-in-Stat
 returns-in-Stat c = rw c.in-Stat.is (sym (length-frame (parts_of Stat)))
+
+pub returns-in-Restart : goal.returns-in-Restart
+returns-in-Restart c = rw c.in-Restart.is (sym (length-frame (parts_of Restart)))
+
+pub returns-in-RestartWithoutJournal : goal.returns-in-RestartWithoutJournal
+returns-in-RestartWithoutJournal c = rw c.in-RestartWithoutJournal.is (sym (length-frame (parts_of RestartWithoutJournal)))
 
 pub returns-in-End : goal.returns-in-End
 returns-in-End c = rw c.in-End.is (sym (length-frame (parts_of End)))

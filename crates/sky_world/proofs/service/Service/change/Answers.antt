@@ -14,4 +14,4 @@ returns-clause-becomes g c =
     rw (← c.self.view_is)
     (becomes_change g.D.Storage old new c.args.disk.now c.change-outcome.new.disk c.args.change.now c.requires.changes (rw (← c.self.view_is) at c.requires.serving) c.facts.ensures.journal c.facts-2.ensures.journal
     c.facts-2.ensures.tree refl refl e.beside (λ d. let r = e.refused d in (ap (λ (v : DurableView). v.tree) r.0, ap (λ (v : DurableView). v.journal) r.0, r.1)) e.any_moment e.quiet c.change-outcome.result e.answer e.tree e.journal
-    e.holds e.stands e.room e.tried e.jukebox e.put_off e.memory e.down)
+    e.holds e.stands e.room e.formed e.tried e.tried_formed e.jukebox e.put_off e.memory e.down)
