@@ -37,6 +37,13 @@ pub tell_counts : {X Y : Type 0} (r : Result X Status) (is : IfErr r IsOfTell) (
     → Counts a b (IsErrOf r status)
 tell_counts r is status other y a b counts = counts_weaker a b counts (λ e. absurd cc) (λ e. absurd (err_not IsOfTell r status is other e))
 
+-- a call that failed, told on
+pub told_counts : {X Y : Type 0} (status other : Status) (a b : ℕ) → Counts a b (IsErrOf (let r : Result X Status = Err status in r) other) → Counts a b (IsErrOf (let r : Result Y Status = Err status in r) other)
+told_counts {X} {Y} status other a b counts =
+    counts_weaker a b counts
+    (λ e. let same : status ≡ other = cc in ap (λ (s : Status). let r : Result Y Status = Err s in r) same)
+    (λ e. let same : status ≡ other = cc in ap (λ (s : Status). let r : Result X Status = Err s in r) same)
+
 -- a call behind one that went well
 pub counts_behind : {X E R : Type 0} (r : Result X E) (a b n : ℕ) → false ≡ is_err r → Counts a b (IsErr r) → Counts b n R → Counts a n R
 counts_behind {X} {E} {R} (Ok x) a b n is first second = subst (λ (m : ℕ). Counts m n R) (first.quiet (λ e. absurd cc)) second

@@ -6,7 +6,7 @@ use Rattle.sky_outside.specs.Moments.{NothingPending}
 use Rattle.sky_outside.proofs.CountLaws.{counts_none, counts_weaker}
 use Rattle.sky_script.specs.Frame.{Opened, RestartWithoutJournal}
 use Rattle.sky_world.specs.World.{WorldView}
-use Rattle.sky_world.proofs.AgainLaws.{again_from, counts_behind, opened_serves, opening_quiet, tell_counts}
+use Rattle.sky_world.proofs.AgainLaws.{again_from, counts_behind, opened_serves, opening_quiet, tell_counts, told_counts}
 use Rattle.sky_world.proofs.OutcomeLaws.{bare_ok, bare_part, tell_fails, tell_refused, tell_statuses}
 use Rattle.sky_world.proofs.PayloadLaws.{got}
 use Rattle.sky_world.proofs.RefuseLaws.{bare_failed, bare_refused, fails_as, wipe_failed}
@@ -69,13 +69,16 @@ pub returns-in_err-opened-clause-disk_cause : goal.returns-in_err-opened-clause-
 returns-in_err-opened-clause-disk_cause g c =
     let p = err_from_is_err_and c.from_residual.result c.from_residual.ensures.1 in
     rw (p.1, p.2)
+    (told_counts c.in_err-opened.field-0.0 JournalFault (g.S.Storage.disk_faults c.args.site.now) (g.S.Storage.disk_faults c.reopen.new.site)
     (counts_behind c.wipe.result (g.S.Storage.disk_faults c.args.site.now) (g.S.Storage.disk_faults c.wipe.new.disk) (g.S.Storage.disk_faults c.reopen.new.site) c.if-is_err.ensures.value c.wipe.ensures.cause
-    (rw c.in_err-opened.was at c.reopen.ensures.disk_cause))
+    (rw c.in_err-opened.was at c.reopen.ensures.disk_cause)))
 
 pub returns-in_err-opened-clause-cloud_cause : goal.returns-in_err-opened-clause-cloud_cause
 returns-in_err-opened-clause-cloud_cause g c =
     let p = err_from_is_err_and c.from_residual.result c.from_residual.ensures.1 in
-    rw (p.1, p.2) (rw (c.wipe.ensures.cloud, c.in_err-opened.was) at c.reopen.ensures.cloud_cause)
+    rw (p.1, p.2)
+    (told_counts c.in_err-opened.field-0.0 CloudFault (g.S.Storage.cloud_faults c.args.site.now) (g.S.Storage.cloud_faults c.reopen.new.site)
+    (rw (c.wipe.ensures.cloud, c.in_err-opened.was) at c.reopen.ensures.cloud_cause))
 
 pub returns-in_err-opened-clause-cause : goal.returns-in_err-opened-clause-cause
 returns-in_err-opened-clause-cause g c =
