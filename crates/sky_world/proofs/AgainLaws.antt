@@ -1,7 +1,7 @@
 -- Laws of a world that was opened, or opened again.
 use Rattle.std.specs.Prelude.{IfErr, IsErr, IsErrOf, replicate}
 use Rattle.std.specs.Result.{is_err}
-use Rattle.std.proofs.Common.{◌≡◌, ℕ, false, List, [], Option, Some, None, Result, Ok, Err, OnOk, refl, sym, ap, subst, ◌∙◌}
+use Rattle.std.proofs.Common.{◌≡◌, ℕ, false, List, [], Option, Some, None, Result, Ok, Err, OnOk, sym, ap, subst, ◌∙◌}
 use Rattle.sky_base.specs.declared.status.Status.{Status}
 use Rattle.sky_base.specs.declared.status.Status.TheVariants.{Memory, SinkFault}
 use Rattle.sky_calls.specs.Durable.{DurableView}

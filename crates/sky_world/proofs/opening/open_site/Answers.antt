@@ -1,5 +1,3 @@
-use Rattle.std.proofs.Common.{ℕ}
-use Rattle.sky_outside.proofs.CountLaws.{counts_weaker}
 use Rattle.sky_world.proofs.OpenedLaws.{counts_cloud, counts_disk, opened_as, refused_as}
 use Rattle.sky_world.proofs.opening.open_site.Goals as goal
 

@@ -1,4 +1,3 @@
-use Rattle.std.proofs.Common.{refl}
 use Rattle.sky_world.specs.World.{WorldView}
 use Rattle.sky_world.proofs.AgainLaws.{reopened_as}
 use Rattle.sky_world.proofs.world.World.reopen.Goals as goal

@@ -1,4 +1,4 @@
-use Rattle.std.proofs.Common.{◌≡◌, inl, refl}
+use Rattle.std.proofs.Common.{inl, refl}
 use Rattle.std.proofs.lemmas.Result.{err_from_is_err_and}
 use Rattle.sky_base.specs.declared.status.Status.TheVariants.{CloudFault, JournalFault}
 use Rattle.sky_script.specs.Frame.{Opened, Restart}

@@ -1,9 +1,8 @@
-use Rattle.std.proofs.Common.{◌≡◌, Result, Err, inl, refl, sym, ap, subst}
+use Rattle.std.proofs.Common.{◌≡◌, Result, Err, inl, sym, ap, subst}
 use Rattle.std.proofs.lemmas.Result.{err_from_is_err_and}
 use Rattle.sky_base.specs.declared.status.Status.{Status}
-use Rattle.sky_base.specs.declared.status.Status.TheVariants.{CloudFault, JournalFault, SinkFault}
+use Rattle.sky_base.specs.declared.status.Status.TheVariants.{JournalFault, SinkFault}
 use Rattle.sky_outside.specs.Told.{Given, GivenPart}
-use Rattle.sky_outside.proofs.CountLaws.{counts_weaker}
 use Rattle.sky_script.specs.Frame.{OutFrame, out_frame}
 use Rattle.sky_world.specs.World.{WorldView}
 use Rattle.sky_world.proofs.AgainLaws.{not_of_sink, refused_memory, refused_sink, tell_counts, world_serves, world_stands}
@@ -41,7 +40,7 @@ returns-in_err-tell_opened-clause-partly g c = λ e.
 pub returns-in_err-tell_opened-clause-unwritten : goal.returns-in_err-tell_opened-clause-unwritten
 returns-in_err-tell_opened-clause-unwritten g c =
     let p = err_from_is_err_and c.from_residual-in_err-tell_opened.result c.from_residual-in_err-tell_opened.ensures.1 in
-    rw (p.1, p.2) (λ is. absurd (not_of_sink c.in_err-tell_opened.field-0.0 is c.in_err-tell_opened.ensures.statuses))
+    rw (p.1, p.2) (λ is. absurd {A = c.tell_opened.new.sink ≡ c.args.sink.now} (not_of_sink c.in_err-tell_opened.field-0.0 is c.in_err-tell_opened.ensures.statuses))
 
 pub returns-in_err-tell_opened-clause-refused : goal.returns-in_err-tell_opened-clause-refused
 returns-in_err-tell_opened-clause-refused g c =
