@@ -60,9 +60,12 @@ pub returns-clause-world : goal.returns-clause-world
 returns-clause-world g c =
     let found = c.in_ok-files.ensures.found in
     let files = c.in_ok-files.files in
-    let opened = c.in_ok-files.opened in
-    (found.0, found.1, world_stands g.S.Storage c.args.settings c.args.site.now c.open_site.new.site files opened c.in-Ok.world found c.in-Ok.ensures c.in_ok-files.ensures.claims c.in_ok-files.ensures.tells,
-    subst (λ (f : OutFrame). Given (g.K.Sink.written c.args.sink.now) (g.K.Sink.written c.tell_opened.new.sink) (out_frame f)) (sym found.5) c.in_ok-tell_opened.ensures.ok)
+    let opened = c.in_ok-files.opened in (
+      found.0,
+      found.1,
+      world_stands g.S.Storage c.args.settings c.args.site.now c.open_site.new.site files opened c.in-Ok.world found c.in-Ok.ensures c.in_ok-files.ensures.claims c.in_ok-files.ensures.tells,
+      subst (λ (f : OutFrame). Given (g.K.Sink.written c.args.sink.now) (g.K.Sink.written c.tell_opened.new.sink) (out_frame f)) (sym found.5) c.in_ok-tell_opened.ensures.ok,
+    )
 
 pub returns-clause-serving : goal.returns-clause-serving
 returns-clause-serving g c =
