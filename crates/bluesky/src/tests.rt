@@ -8,7 +8,11 @@ use sky_outside::{Disk, Failed, Site, Source, Storage};
 use std::process::Abort;
 use std::test::Fail;
 
+mod crashes;
+mod sparse;
 mod tree;
+
+use sparse::SparseSite;
 
 /// A frame: its kind, its session and its payload.
 type Parts<'a> = (u8, u32, &'a [u8]);
@@ -648,12 +652,10 @@ fn a_site_is_opened_twice(rt: HostRuntime) -> Result<(), Fail> {
 }
 
 /// A blank site of which the call of this number fails, after it happened or not.
-fn failing_site(alloc: Global, call: u64, happened: bool) -> Result<MemSite, Fail>
-    ensures { IfOk result (λ site. NothingPending ⟦<MemSite as Storage>⟧ site) }
-{
+fn failing_site(alloc: Global, call: u64, happened: bool) -> Result<SparseSite, Fail> {
     let mut fail = Vec::new(alloc);
     fail.push(FailingCall { call, happened })?;
-    Ok(MemSite::new(alloc, DISK_BYTES, Vec::new(alloc), 100, 10_000, fail)?)
+    Ok(SparseSite::new(alloc, fail)?)
 }
 
 /// How many calls of its site the opening of a blank one is.

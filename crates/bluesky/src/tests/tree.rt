@@ -3,7 +3,7 @@
 use super::*;
 
 /// Bytes, so many times over.
-type Piece<'a> = (&'a [u8], usize);
+pub type Piece<'a> = (&'a [u8], usize);
 
 /// The status of an answer, how many bytes its results have, and what stands in them from this place on.
 type Answer<'a> = (u32, usize, usize, &'a [Piece<'a>]);
@@ -11,13 +11,13 @@ type Answer<'a> = (u32, usize, usize, &'a [Piece<'a>]);
 /// A procedure of NFS and its arguments, and the answer.
 type Row = (u32, &'static [Piece<'static>], Answer<'static>);
 
-const NFS: u32 = 100_003;
+pub const NFS: u32 = 100_003;
 
 const MOUNT: u32 = 100_005;
 
-const ROOT: Piece<'static> = (b"\0\0\0\x10\0\0\0\0\0\0\0\x01\0\0\0\0\0\0\0\x01", 1);
+pub const ROOT: Piece<'static> = (b"\0\0\0\x10\0\0\0\0\0\0\0\x01\0\0\0\0\0\0\0\x01", 1);
 
-const NODE_2: Piece<'static> = (b"\0\0\0\x10\0\0\0\0\0\0\0\x01\0\0\0\0\0\0\0\x02", 1);
+pub const NODE_2: Piece<'static> = (b"\0\0\0\x10\0\0\0\0\0\0\0\x01\0\0\0\0\0\0\0\x02", 1);
 
 const NODE_3: Piece<'static> = (b"\0\0\0\x10\0\0\0\0\0\0\0\x01\0\0\0\0\0\0\0\x03", 1);
 
@@ -33,10 +33,10 @@ const NODE_7: Piece<'static> = (b"\0\0\0\x10\0\0\0\0\0\0\0\x01\0\0\0\0\0\0\0\x07
 const SOME: Piece<'static> = (b"\0\0\0\x01", 1);
 
 /// No attribute is set (sattr3, RFC 1813 section 2.6).
-const KEEP: Piece<'static> = (b"\0\0\0\0", 6);
+pub const KEEP: Piece<'static> = (b"\0\0\0\0", 6);
 
 /// UNCHECKED.
-const UNCHECKED: Piece<'static> = (b"\0\0\0\0", 1);
+pub const UNCHECKED: Piece<'static> = (b"\0\0\0\0", 1);
 
 /// EXCLUSIVE, with the verifiers 7 and 8.
 const EXCLUSIVE_7: Piece<'static> = (b"\0\0\0\x02\0\0\0\0\0\0\0\x07", 1);
@@ -53,7 +53,7 @@ const SIZE_32768: Piece<'static> = (b"\0\0\0\0\0\0\x80\0", 1);
 const SIZE_98303: Piece<'static> = (b"\0\0\0\0\0\x01\x7f\xff", 1);
 
 /// From the first entry on, and from behind the cookie 3 on, without a verifier.
-const FIRST: Piece<'static> = (b"\0\0\0\0\0\0\0\0\0\0\0\0\0\0\0\0", 1);
+pub const FIRST: Piece<'static> = (b"\0\0\0\0\0\0\0\0\0\0\0\0\0\0\0\0", 1);
 
 const BEHIND_3: Piece<'static> = (b"\0\0\0\0\0\0\0\x03\0\0\0\0\0\0\0\0", 1);
 
@@ -69,11 +69,11 @@ const DOT_DOT: Piece<'static> = (
     1,
 );
 
-const A: Piece<'static> = (b"\0\0\0\x01a\0\0\0", 1);
+pub const A: Piece<'static> = (b"\0\0\0\x01a\0\0\0", 1);
 
-const B: Piece<'static> = (b"\0\0\0\x01b\0\0\0", 1);
+pub const B: Piece<'static> = (b"\0\0\0\x01b\0\0\0", 1);
 
-const C: Piece<'static> = (b"\0\0\0\x01c\0\0\0", 1);
+pub const C: Piece<'static> = (b"\0\0\0\x01c\0\0\0", 1);
 
 const D: Piece<'static> = (b"\0\0\0\x01d\0\0\0", 1);
 
@@ -237,7 +237,7 @@ const FILE_SYNC: Piece<'static> = (
     1,
 );
 
-const WHOLE: Piece<'static> = (b"\0\0\0\0", 3);
+pub const WHOLE: Piece<'static> = (b"\0\0\0\0", 3);
 
 /// A procedure of NFS and its arguments; and behind it how many changes there are, and how many of them are stable.
 type Count = (u32, &'static [Piece<'static>], u64, u64);
@@ -286,7 +286,7 @@ fn record_of(
 }
 
 /// Adds the frame with a call.
-fn put_call(
+pub fn put_call(
     alloc: Global,
     bytes: &mut Vec<u8>,
     program: u32,
@@ -317,7 +317,7 @@ fn word(rest: &[u8]) -> Result<(u32, &[u8]), Fail> {
 }
 
 /// The results of the reply that comes next, and what follows the reply.
-fn reply(rest: &[u8]) -> Result<(&[u8], &[u8]), Fail> {
+pub fn reply(rest: &[u8]) -> Result<(&[u8], &[u8]), Fail> {
     let rest = rest.strip_prefix(b"\x02\0\0\0\0").ok_or("no reply")?;
     let (length, rest) = word(rest)?;
     let (reply, rest) = rest.split_at_checked(length as usize).ok_or("cut")?;
@@ -400,7 +400,7 @@ fn what_is_stable_is_shown(rt: HostRuntime) -> Result<(), Fail> {
 }
 
 /// READ from 0 on, and what it gives: nothing, and `hello`.
-const FROM_START: Piece<'static> = (b"\0\0\0\0\0\0\0\0\0\0\0\x10", 1);
+pub const FROM_START: Piece<'static> = (b"\0\0\0\0\0\0\0\0\0\0\0\x10", 1);
 
 const NOTHING: Answer<'static> = (0, 104, 92, &[(b"\0\0\0\0\0\0\0\x01\0\0\0\0", 1)]);
 
