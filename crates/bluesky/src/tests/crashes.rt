@@ -99,7 +99,7 @@ fn script_of(alloc: Global, lines: &[Line]) -> Result<Vec<u8>, Fail> {
 /// Runs a recording over a site.
 fn run_over(alloc: Global, bytes: &[u8], site: &mut SparseSite) -> Result<(Status, MemSink), Fail> {
     let mut source = source_of(alloc, bytes, &[])?;
-    replay_over(alloc, &mut source, site, &[])
+    replay(alloc, &mut source, site, &[])
 }
 
 /// What a run that is done writes.
@@ -131,7 +131,7 @@ fn tree_of(alloc: Global, changes: &[Call]) -> Result<Vec<u8>, Fail> {
     put_calls(alloc, &mut bytes, changes)?;
     put_calls(alloc, &mut bytes, &LOOKS)?;
     put_frame(&mut bytes, (99, 0, &[]))?;
-    let mut site = SparseSite::new(alloc, Vec::new(alloc))?;
+    let mut site = new_site(alloc)?;
     let sink = written_by(alloc, &bytes, &mut site)?;
     let (_, mut rest) = sink.bytes().split_at_checked(37).ok_or("no opening")?;
     for _ in changes {
@@ -226,9 +226,7 @@ fn check_failing(
     least: u64,
     trees: &[Vec<u8>],
 ) -> Result<(), Fail> {
-    let mut fail = Vec::new(alloc);
-    fail.push(fails)?;
-    let mut site = SparseSite::new(alloc, fail)?;
+    let mut site = failing_site(alloc, fails.call, fails.happened)?;
     let (status, _) = run_over(alloc, bytes, &mut site)?;
     let of_devices = matches!(status, Status::JournalFault | Status::CloudFault);
     assert!(rt; of_devices, "{status:?} by {fails:?}");
@@ -293,7 +291,7 @@ fn check_line(
         None => (0, 0, 0),
     };
     let bytes = script_of(alloc, lines)?;
-    let mut site = SparseSite::new(alloc, Vec::new(alloc))?;
+    let mut site = new_site(alloc)?;
     let sink = written_by(alloc, &bytes, &mut site)?;
     let shown = sink.bytes().len().saturating_sub(94);
     let (history, mark, _) = numbers(&sink.bytes()[shown..])?;
