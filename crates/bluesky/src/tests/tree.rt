@@ -1,5 +1,7 @@
 //! Calls on the file tree, as the bytes of a recording and of its answers.
 
+ghost use Rattle.sky_outside.specs.Moments.{NothingPending};
+
 use super::*;
 
 /// Bytes, so many times over.
