@@ -217,13 +217,15 @@ fn a_site_keeps_what_it_is_given(rt: HostRuntime) -> Result<(), Fail> {
     Ok(())
 }
 
-/// A journal's path, the size that is told of it where 32 is asked for, and whether it opens.
-static SIZES: [(&str, u64, Went); 5] = [
+/// A journal's path, the size that is told of it where 32 is asked for, and whether it opens. No one may make a file in the last one's
+/// folder.
+static SIZES: [(&str, u64, Went); 6] = [
     ("test_sizes/short", 10, Went::Well),
     ("test_sizes/empty", 0, Went::Well),
     ("test_sizes/new", 32, Went::Well),
     ("test_sizes", 32, Went::Failed),
     ("test_sizes/missing/journal", 32, Went::Failed),
+    ("/proc/self/journal", 32, Went::Failed),
 ];
 
 #[test]
@@ -294,12 +296,13 @@ static CLOSED: [Row; 7] = [
     (Ask::Remove(1), Went::Failed, *b"--"),
 ];
 
-/// What is no folder, and can't be made one.
-static NO_FOLDERS: [Option<&str>; 4] = [
+/// What is no folder, and can't be made one: in the last one's folder no one may make any.
+static NO_FOLDERS: [Option<&str>; 5] = [
     None,
     Some(""),
     Some("test_closed/file"),
     Some("test_closed/file/cloud"),
+    Some("/proc/self/cloud"),
 ];
 
 #[test]

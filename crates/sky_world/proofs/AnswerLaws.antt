@@ -1,16 +1,16 @@
 -- Laws of answers: the tree after them is the history's.
-use Rattle.std.proofs.Common.{◌≡◌, ◌+◌, ◌≤◌, ℕ, Bool, true, false, ◌&&◌, Option, Some, None, is_none, List, [], ◌∷◌, ◌++◌, refl, sym, ap, ◌∙◌}
+use Rattle.std.proofs.Common.{◌≡◌, Bool, true, false, ◌&&◌, Option, Some, None, is_none, List, [], ◌∷◌, ◌++◌, refl, sym}
 use Rattle.sky_base.specs.declared.cred.Cred.{Cred}
 use Rattle.sky_base.specs.declared.moment.Moment.{Moment}
 use Rattle.sky_nfs.specs.Calls.{is_change}
 use Rattle.sky_nfs.specs.History.{History, last_tree, tree_after_change, tree_after_changes, is_done}
-use Rattle.sky_nfs.specs.Procedure.{procedure, refusal_of, tree_after}
+use Rattle.sky_nfs.specs.Procedure.{refusal_of, tree_after}
 use Rattle.sky_nfs.specs.Tree.{Tree}
 use Rattle.sky_nfs.specs.declared.call.Call.{Call}
 use Rattle.sky_nfs.specs.declared.call.Change.{Change}
 use Rattle.sky_nfs.specs.declared.status.NfsStatus.{NfsStatus}
 use Rattle.sky_nfs.proofs.ProcedureLemmas.{tree_after-refused, tree_after-reading}
-use Rattle.sky_world.specs.Meaning.{after_call, with_change}
+use Rattle.sky_world.specs.Meaning.{after_call}
 
 -- changes, and one more
 changes_then : (t : Tree) (changes : List Change) (change : Change) → tree_after_changes t (changes ++ change ∷ []) ≡ tree_after_change (tree_after_changes t changes) change

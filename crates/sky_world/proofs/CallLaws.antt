@@ -1,6 +1,6 @@
 -- Laws of a call of NFS: what the program does with it, in each state for which it stands.
-use Rattle.std.specs.Prelude.{IsSome, IsTrue, cond, ◌&&◌, ◌||◌}
-use Rattle.std.proofs.Common.{◌≡◌, ◌⊎◌, ℕ, Bool, true, false, Option, Some, None, List, [], ◌∷◌, ◌++◌, refl, sym, ap, subst, ◌∙◌}
+use Rattle.std.specs.Prelude.{IsSome, IsTrue, cond, ◌&&◌}
+use Rattle.std.proofs.Common.{◌≡◌, ◌⊎◌, ℕ, Bool, true, false, Option, Some, None, List, ◌++◌, refl, sym, ap, subst, ◌∙◌}
 use Rattle.sky_base.specs.declared.cred.Cred.{Cred}
 use Rattle.sky_base.specs.declared.moment.Moment.{Moment}
 use Rattle.sky_calls.specs.Durable.{LeavesOldOrMore, journal_after}
@@ -13,7 +13,6 @@ use Rattle.sky_journal.proofs.Disks.{told_then}
 use Rattle.sky_journal.proofs.Journals.{StandsFor-but}
 use Rattle.sky_nfs.specs.Calls.{is_change}
 use Rattle.sky_nfs.specs.History.{is_done, last_tree}
-use Rattle.sky_nfs.specs.Procedure.{procedure, refusal_of}
 use Rattle.sky_nfs.specs.Tree.{Tree}
 use Rattle.sky_nfs.specs.declared.answer.Answer.{Answer}
 use Rattle.sky_nfs.specs.declared.call.Call.{Call}
@@ -28,8 +27,8 @@ use Rattle.sky_rpc.specs.Reply.{Success, reply_record}
 use Rattle.sky_world.specs.Carried.{Carries, CarriesDown, IsServing, Stays, entries_brought}
 use Rattle.sky_world.specs.Disk.{AreStorable, IsKeptOn, LeavesPrefix, WentOn}
 use Rattle.sky_sound.specs.Entries.{IsStorable}
-use Rattle.sky_world.specs.Feeding.{AnswersCall, Called, FailsCall, by_procedure, without_room, without_memory}
-use Rattle.sky_world.specs.Meaning.{State, Kept, called_by, kept_after, journal_after_call, lacks_room, makes_stable, service_of, with_kept}
+use Rattle.sky_world.specs.Feeding.{Called, by_procedure, without_room, without_memory}
+use Rattle.sky_world.specs.Meaning.{State, Kept, called_by, kept_after, lacks_room, makes_stable, service_of, with_kept}
 use Rattle.sky_world.specs.Service.{answer_to, bare_answer, reply_without_memory, takes_some}
 use Rattle.sky_world.specs.World.{ServiceView, ServesFor}
 use Rattle.sky_world.proofs.AnswerLaws.{called_tree}

@@ -35,12 +35,11 @@ use Rattle.sky_outside.specs.declared.storage.Storage.{Ghosts}
 use Rattle.sky_outside.proofs.MomentLaws.{LeavesOnly-disk_start, only_read}
 use Rattle.sky_outside.proofs.ToldLaws.{WhereTold-from}
 use Rattle.sky_tree.specs.Memory.{takes_memory}
-use Rattle.sky_world.specs.Carried.{Becomes, Carries, CarriesDown, IsServing, Stays, entries_brought, has_committed}
-use Rattle.sky_world.specs.Meaning.{journal_after_call, lacks_room, makes_stable}
-use Rattle.sky_world.specs.Service.{takes_some}
+use Rattle.sky_world.specs.Carried.{Becomes, Carries, CarriesDown, IsServing, has_committed}
+use Rattle.sky_world.specs.Meaning.{makes_stable}
 use Rattle.sky_world.specs.World.{ServiceView}
 use Rattle.sky_sound.specs.Entries.{IsStorable}
-use Rattle.sky_world.proofs.CallLaws.{done_makes, change_makes}
+use Rattle.sky_world.proofs.CallLaws.{change_makes}
 use Rattle.sky_world.proofs.FitLaws.{answer_fits}
 use Rattle.sky_world.proofs.StorableLaws.{storable_of}
 

@@ -1,20 +1,19 @@
 -- Laws of what the journal's disk has: how prefixes of one history stay prefixes of it as it goes on, and how calls follow one another.
-use Rattle.std.proofs.Common.{◌≡◌, ◌⊎◌, ℕ, ◌-◌, ◌≤◌, Option, Some, None, List, [], ◌∷◌, ◌++◌, map, take, length, refl, sym, ap, subst, ◌∙◌, arith, append_assoc, ⊎_elim, inl, inr}
+use Rattle.std.proofs.Common.{◌≡◌, ℕ, ◌-◌, ◌≤◌, Option, Some, None, List, [], ◌++◌, map, take, length, refl, sym, ap, subst, ◌∙◌, arith, append_assoc, ⊎_elim, inl, inr}
 use Rattle.std.proofs.lemmas.List.{append-nil, length-append, take-append-le}
 use Rattle.sky_entry.specs.Entry.{entry_bytes}
-use Rattle.sky_journal.specs.Journal.{JournalView, IsJournal, StandsFor, Reads, ReadsAs, SameButSpare, entries, first_base, number_behind}
+use Rattle.sky_journal.specs.Journal.{IsJournal, ReadsAs, entries}
 use Rattle.sky_journal.specs.Text.{numbered}
-use Rattle.sky_journal.proofs.Journals.{StandsFor-but}
 use Rattle.sky_journal.proofs.Reading.{reads}
 use Rattle.sky_nfs.specs.History.{history_length}
 use Rattle.sky_nfs.specs.declared.call.Change.{Change}
-use Rattle.sky_outside.specs.Moments.{BesideObjects, LeavesOnly, NothingPending, SameCloud}
+use Rattle.sky_outside.specs.Moments.{BesideObjects, LeavesOnly}
 use Rattle.sky_outside.specs.Told.{BothTold, WhereTold}
 use Rattle.sky_outside.specs.declared.storage.Storage.{Ghosts}
 use Rattle.sky_outside.proofs.MomentLaws.{LeavesOnly-disk_start, LeavesOnly-disk_then, only_read}
 use Rattle.sky_outside.proofs.ToldLaws.{WhereTold-at, WhereTold-from}
 use Rattle.sky_sound.specs.Entries.{IsStorable}
-use Rattle.sky_world.specs.Disk.{AreStorable, HasKept, HoldsPrefix, IsKeptOn, LeavesPrefix, ReadsAsPrefix, WentOn, entries_behind, entries_to}
+use Rattle.sky_world.specs.Disk.{AreStorable, HasKept, HoldsPrefix, IsKeptOn, LeavesPrefix, ReadsAsPrefix, WentOn, entries_to}
 use Rattle.sky_world.specs.Meaning.{Kept, cut_to}
 use Rattle.sky_world.proofs.StorableLaws.{all_take}
 

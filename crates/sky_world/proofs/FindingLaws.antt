@@ -1,10 +1,10 @@
 -- Laws of what recovery finds of a disk that has the first changes of a history, beside a cloud that ends where the history begins.
 use Rattle.std.specs.Prelude.{max, is_some, IsTrue, ◌&&◌}
 use Rattle.std.specs.List.{AllByRecursion}
-use Rattle.std.proofs.Common.{◌≡◌, ℕ, ◌+◌, ◌-◌, ◌≤◌, zero, suc, Bool, true, false, Option, Some, None, Ok, List, [], ◌∷◌, ◌++◌, map, take, length, inl, inr, ⊎_elim, refl, sym, ap, subst, ◌∙◌, arith}
+use Rattle.std.proofs.Common.{◌≡◌, ℕ, ◌+◌, ◌-◌, ◌≤◌, zero, suc, Bool, true, false, Option, Some, None, Ok, List, [], ◌∷◌, map, take, length, inl, inr, ⊎_elim, refl, sym, ap, subst, ◌∙◌, arith}
 use Rattle.std.proofs.lemmas.List.{append-nil, length-take}
 use Rattle.sky_entry.specs.Entry.{entry_bytes}
-use Rattle.sky_journal.specs.Journal.{IsJournal, Reads, entries, first_base}
+use Rattle.sky_journal.specs.Journal.{IsJournal, Reads, entries}
 use Rattle.sky_journal.specs.Text.{Read, numbered}
 use Rattle.sky_journal.proofs.Reading.{reads}
 use Rattle.sky_nfs.specs.History.{History, IsLegalHistory, are_done, history_length, is_done, last_tree, tree_after_change, tree_after_changes, tree_at_length}
@@ -18,8 +18,8 @@ use Rattle.sky_outside.proofs.MomentLaws.{only_read}
 use Rattle.sky_outside.proofs.ToldLaws.{WhereTold-at, WhereTold-from}
 use Rattle.sky_recover.specs.Opening.{WhereBothTold}
 use Rattle.sky_sound.specs.Cloud.{checkpoint_in, cloud_tree, covers_of}
-use Rattle.sky_sound.specs.Entries.{IsStorable, change_of, changes_in, entries_above, is_of_change, journal_of, with_change}
-use Rattle.sky_sound.specs.Recovery.{FindsSame, IsSound, Recovered, history_from, history_of, recovered}
+use Rattle.sky_sound.specs.Entries.{change_of, changes_in, entries_above, is_of_change, journal_of, with_change}
+use Rattle.sky_sound.specs.Recovery.{FindsSame, IsSound, Recovered, history_from, history_of}
 use Rattle.sky_sound.proofs.Above.{above_yes, history_is, history_recovered}
 use Rattle.sky_world.specs.Disk.{AreStorable, HasKept, HoldsPrefix, IsKeptOn, LeavesPrefix, ReadsAsPrefix, entries_to}
 use Rattle.sky_world.specs.Finding.{FindsNow, FindsPrefix, LeavesFinding}

@@ -1,25 +1,24 @@
 -- No answer has more bytes than a reply has room for.
-use Rattle.std.proofs.Common.{◌≡◌, ◌+◌, ◌*◌, ◌/◌, ◌%◌, ◌-◌, ◌≤◌, ℕ, Bool, true, false, not, ◌&&◌, Option, Some, None, List, [], ◌∷◌, ◌++◌, map, flat_map, length, min, take, drop, refl, sym, ap, subst, ◌∙◌, arith}
-use Rattle.std.specs.Prelude.{sum_by, unwrap_or, nat_le}
+use Rattle.std.proofs.Common.{◌≡◌, ◌+◌, ◌*◌, ◌/◌, ◌≤◌, ℕ, Bool, true, false, ◌&&◌, Option, Some, None, List, [], ◌∷◌, ◌++◌, map, flat_map, length, min, drop, refl, subst, arith}
+use Rattle.std.specs.Prelude.{sum_by, nat_le}
 use Rattle.std.proofs.lemmas.List.{length-append, length-replicate, length-take}
 use Rattle.std.proofs.lemmas.List.Sums.{sum_by-cons}
 use Rattle.std.proofs.lemmas.Bool.Decides.{nat_tests}
-use Rattle.std.specs.List.{AllByRecursion}
 use Rattle.sky_base.specs.Listing.{Entry}
 use Rattle.sky_base.specs.declared.cred.Cred.{Cred}
 use Rattle.sky_base.specs.declared.moment.Moment.{Moment}
 use Rattle.sky_nfs.specs.Calls.{is_change}
-use Rattle.sky_nfs.specs.Handles.{fileid_in, handle_bytes}
+use Rattle.sky_nfs.specs.Handles.{fileid_in}
 use Rattle.sky_nfs.specs.Procedure.{procedure, answer_of, refusal_of, rules_of, tree_after}
 use Rattle.sky_nfs.specs.Procedures.Read.{bytes_at}
-use Rattle.sky_nfs.specs.Procedures.ReadDir.{entry_size, entry_plus_size, fits, fits_plus, is_too_small, left_behind, listed, listed_plus, longest, padded_length, readdir_rules, readdirplus_rules}
-use Rattle.sky_nfs.specs.Tree.{Tree, Node, node_at, no_node, the_node, bytes_of, text_of, link_text, File, Directory, Link, Content}
+use Rattle.sky_nfs.specs.Procedures.ReadDir.{entry_size, entry_plus_size, fits, fits_plus, is_too_small, left_behind, listed, listed_plus, longest, readdir_rules, readdirplus_rules}
+use Rattle.sky_nfs.specs.Tree.{Tree, Node, node_at, the_node, bytes_of, text_of, link_text, File, Directory, Link, Content}
 use Rattle.sky_nfs.specs.Validity.{IsValidTree, is_within}
 use Rattle.sky_nfs.specs.declared.answer.Answer.{Answer}
 use Rattle.sky_nfs.specs.declared.call.Call.{Call}
 use Rattle.sky_nfs.specs.declared.call.Call.TheVariants as call
 use Rattle.sky_nfs.specs.declared.status.NfsStatus.{NfsStatus}
-use Rattle.sky_nfs.proofs.KeptLemmas.{AllPassed, passed}
+use Rattle.sky_nfs.proofs.KeptLemmas.{passed}
 use Rattle.sky_nfs.proofs.ProcedureLemmas.{tree_after-reading}
 use Rattle.sky_nfs.proofs.ValidityLemmas.{each-node_at}
 use Rattle.sky_results.specs.Answers.{answer_bytes, data_length}

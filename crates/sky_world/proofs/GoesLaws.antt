@@ -1,6 +1,6 @@
 -- Laws of how what is kept goes on from record to record.
 use Rattle.std.specs.Prelude.{cond}
-use Rattle.std.proofs.Common.{◌≡◌, ℕ, ◌≤◌, Bool, true, false, Option, List, ◌++◌, refl, sym, ap, subst, ◌∙◌, arith}
+use Rattle.std.proofs.Common.{◌≡◌, ℕ, ◌≤◌, Bool, true, false, Option, List, refl, sym, ap, subst, arith}
 use Rattle.sky_nfs.specs.History.{History, history_length, last_tree}
 use Rattle.sky_nfs.specs.declared.call.Change.{Change}
 use Rattle.sky_record.specs.Stream.{Progress}

@@ -1,8 +1,7 @@
 -- Laws of the history, and of want of memory.
 use Rattle.std.specs.Prelude.{cond}
-use Rattle.std.proofs.Common.{◌≡◌, ℕ, zero, suc, ◌-◌, take, Bool, true, false, ◌&&◌, IsTrue, Option, Some, None, List, [], ◌∷◌, ◌++◌, inl, inr, refl, sym, ap, subst, ◌∙◌, append_assoc}
+use Rattle.std.proofs.Common.{◌≡◌, ℕ, zero, suc, ◌-◌, take, Bool, true, false, ◌&&◌, Option, Some, None, List, [], ◌∷◌, ◌++◌, inl, inr, refl, sym, ap, subst, ◌∙◌, append_assoc}
 use Rattle.std.proofs.lemmas.List.{append-nil}
-use Rattle.std.specs.List.{AllByRecursion}
 use Rattle.sky_base.specs.declared.cred.Cred.{Cred}
 use Rattle.sky_base.specs.declared.moment.Moment.{Moment}
 use Rattle.sky_nfs.specs.History.{History, IsLegalHistory, last_tree, tree_after_change, tree_after_changes, is_done, are_done}
@@ -18,7 +17,7 @@ use Rattle.sky_script.specs.Frame as frame
 use Rattle.sky_script.specs.Frame.{InFrame, OutFrame}
 use Rattle.sky_world.specs.Laws.{TellsOutOfMemory, NoneOutOfMemory, GoesOnFrom}
 use Rattle.sky_world.specs.World.{IsRestart}
-use Rattle.sky_world.specs.Meaning.{State, Kept, Session, Absent, Open, Closed, Memory, Ample, Scarce, Answered, by_meaning, put_off, out_of_memory, after_call, after_message, after_reply, called_by, kept_after, makes_stable, service_of, session_at, with_change, with_kept, with_session, is_open, frame_for, Passes, Then, Closes, StepRecord, StepRecords, StepProgress, StepBytes, Restarts, as_known, untold, Reopens, covered_found, cut_to, found_to, kept_found, Step, Steps}
+use Rattle.sky_world.specs.Meaning.{State, Kept, Session, Absent, Open, Closed, Memory, Ample, Scarce, Answered, by_meaning, put_off, out_of_memory, after_call, after_message, after_reply, called_by, kept_after, makes_stable, service_of, session_at, with_change, with_kept, with_session, frame_for, Passes, Then, Closes, StepRecord, StepRecords, StepProgress, StepBytes, Restarts, as_known, untold, cut_to, found_to, Step, Steps}
 use Rattle.sky_world.specs.Message as message
 use Rattle.sky_world.specs.Message.{Message, meaning_of}
 use Rattle.sky_world.specs.Service.{RunsOut}

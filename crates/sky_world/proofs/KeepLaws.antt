@@ -8,8 +8,7 @@ use Rattle.sky_entry.specs.Entry.{entry_bytes}
 use Rattle.sky_journal.specs.Journal.{JournalView, IsJournal, StandsFor, StandsOn, Reads, after_commit, area_with, base_in, numbered_in, entries, first_base, last_of, number_behind}
 use Rattle.sky_journal.specs.Text.{numbered}
 use Rattle.sky_journal.specs.declared.open_area.OpenArea.{OpenArea}
-use Rattle.sky_journal.proofs.Journals.{StandsFor-but}
-use Rattle.sky_nfs.specs.History.{History, history_length}
+use Rattle.sky_nfs.specs.History.{history_length}
 use Rattle.sky_nfs.specs.declared.call.Change.{Change}
 use Rattle.sky_outside.specs.Moments.{BesideObjects, LeavesOnly, SameCloud}
 use Rattle.sky_outside.specs.Told.{BothTold, WhereTold}

@@ -24,5 +24,6 @@ pub mod RefuseLaws
 pub mod StandLaws
 pub mod OutcomeLaws
 pub mod OpenedLaws
+pub mod AgainLaws
 pub mod CutLaws
 pub mod ServeLaws

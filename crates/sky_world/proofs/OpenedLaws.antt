@@ -1,11 +1,10 @@
 -- Laws of an opening, as the world takes it: what was found, and with which status it is refused.
-use Rattle.std.specs.Prelude.{IfErr, IsErrOf, nat_lt}
-use Rattle.std.proofs.Common.{◌≡◌, ◌⊎◌, ℕ, Result, Ok, Err, refl, sym, ap, ◌∙◌}
+use Rattle.std.proofs.Common.{◌≡◌, ℕ, Result, Err, refl, sym, ap}
 use Rattle.sky_base.specs.declared.place.Lost.TheVariants.{Damaged, Missing}
 use Rattle.sky_base.specs.declared.status.Status.{Status}
 use Rattle.sky_base.specs.declared.status.Status.TheVariants as status
 use Rattle.sky_calls.specs.Durable.{DurableView}
-use Rattle.sky_nfs.specs.History.{history_length, last_tree}
+use Rattle.sky_nfs.specs.History.{last_tree}
 use Rattle.sky_outside.specs.Count.{Counts}
 use Rattle.sky_outside.specs.declared.storage.Storage.{Ghosts}
 use Rattle.sky_outside.proofs.CountLaws.{counts_weaker}

@@ -10,7 +10,7 @@ use Rattle.sky_outside.specs.Told.{BothTold, Given, GivenPart}
 use Rattle.sky_outside.specs.declared.storage.Storage.{Ghosts}
 use Rattle.sky_outside.proofs.CountLaws.{counts_none}
 use Rattle.sky_recover.specs.Opening.{Found, IsFoundOn, IsOpenOn, LeavesFound}
-use Rattle.sky_script.specs.Frame.{InFrame, OutFrame, Bytes, Restart, RestartWithoutJournal, out_frame, session_count}
+use Rattle.sky_script.specs.Frame.{InFrame, OutFrame, Restart, RestartWithoutJournal, out_frame, session_count}
 use Rattle.sky_sound.specs.Boot.{claimed}
 use Rattle.sky_world.specs.Carried.{IsServing}
 use Rattle.sky_world.specs.declared.sessions.Session.TheVariants.{Absent}

@@ -7,19 +7,19 @@ use Rattle.sky_calls.specs.Stable.{is_stable_call}
 use Rattle.sky_entry.specs.Entry.{entry_bytes}
 use Rattle.sky_journal.specs.Journal.{area_with, new_area}
 use Rattle.sky_journal.specs.declared.open_area.OpenArea.{OpenArea}
-use Rattle.sky_nfs.specs.History.{History, IsLegalHistory, history_length, is_done, last_tree}
+use Rattle.sky_nfs.specs.History.{History, history_length, is_done, last_tree}
 use Rattle.sky_nfs.specs.Tree.{Tree}
 use Rattle.sky_nfs.specs.declared.call.Change.{Change}
 use Rattle.sky_outside.specs.CloudMap.{CloudMap}
 use Rattle.sky_outside.specs.Moments.{SameCloud}
-use Rattle.sky_outside.specs.Told.{BothTold, WhereTold}
+use Rattle.sky_outside.specs.Told.{BothTold}
 use Rattle.sky_outside.specs.declared.storage.Storage.{Ghosts}
 use Rattle.sky_outside.proofs.ToldLaws.{WhereTold-at, WhereTold-from}
 use Rattle.sky_script.specs.Frame.{InFrame, OutFrame}
 use Rattle.sky_sound.specs.Cloud.{cloud_tree}
 use Rattle.sky_world.specs.Disk.{entries_behind}
 use Rattle.sky_world.specs.Laws.{IsMarked}
-use Rattle.sky_world.specs.Meaning.{State, Kept, Memory, Scarce, after_message, called_by, kept_after, makes_stable, Step}
+use Rattle.sky_world.specs.Meaning.{State, Kept, Memory, Scarce, after_message, called_by, makes_stable, Step}
 use Rattle.sky_world.specs.Message as message
 use Rattle.sky_world.specs.Message.{Message}
 use Rattle.sky_world.specs.World.{IsBeside, IsRecoverable, IsRestart, tells}

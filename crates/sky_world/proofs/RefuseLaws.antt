@@ -1,17 +1,14 @@
 -- Laws of an opening that is refused, and of a restart that came to no end.
-use Rattle.std.specs.Prelude.{IsTrue}
-use Rattle.std.proofs.Common.{◌≡◌, ℕ, ◌+◌, true, false, Option, Some, None, Ok, Err, List, [], ◌∷◌, ◌++◌, inl, inr, refl, sym, ap, subst, ◌∙◌}
+use Rattle.std.proofs.Common.{◌≡◌, ℕ, ◌+◌, true, Option, Some, None, Ok, List, [], ◌∷◌, ◌++◌, inl, inr, refl, sym, ap, subst, ◌∙◌}
 use Rattle.std.proofs.lemmas.Bool.{and_parts, false_from_ne_true, true≢false}
 use Rattle.sky_base.specs.declared.place.Lost.TheVariants as lost
 use Rattle.sky_base.specs.declared.status.Status.{Status}
 use Rattle.sky_base.specs.declared.status.Status.TheVariants.{JournalFault, Memory, CloudFault, Foreign, Missing, Damaged, Worn}
-use Rattle.sky_journal.specs.Text.{Read}
 use Rattle.sky_nfs.specs.History.{History, are_done, is_done, tree_after_change, tree_after_changes}
 use Rattle.sky_nfs.specs.Tree.{Tree}
 use Rattle.sky_nfs.specs.declared.call.Change.{Change}
 use Rattle.sky_outside.specs.CloudMap.{CloudMap}
 use Rattle.sky_outside.specs.Moments.{SameCloud}
-use Rattle.sky_outside.specs.Told.{WhereTold}
 use Rattle.sky_outside.specs.declared.storage.Storage.{Ghosts}
 use Rattle.sky_outside.proofs.ToldLaws.{WhereTold-at}
 use Rattle.sky_recover.specs.Opening.{LeavesFound, WhereBothTold}
@@ -22,7 +19,7 @@ use Rattle.sky_script.specs.Frame as frame
 use Rattle.sky_script.specs.Frame.{InFrame}
 use Rattle.sky_sound.specs.Cloud.{checkpoint_in, cloud_tree, covers_of, epoch_after}
 use Rattle.sky_sound.specs.Entries.{change_of, changes_in, entries_above, journal_of, with_change}
-use Rattle.sky_sound.specs.Recovery.{IsSound, history_from}
+use Rattle.sky_sound.specs.Recovery.{IsSound}
 use Rattle.sky_sound.proofs.Above.{history_from_entries}
 use Rattle.sky_sound.proofs.Texts.{ok_same}
 use Rattle.sky_world.specs.Meaning.{State}

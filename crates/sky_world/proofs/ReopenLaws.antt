@@ -1,13 +1,12 @@
 -- Laws of an opening: the world over what was found stands for it, and a restart finds what the state before it says.
-use Rattle.std.specs.Prelude.{cond, drop, replicate, is_some, nat_lt, ◌&&◌, IfSome, IsSome}
-use Rattle.std.specs.List.{AllByRecursion}
-use Rattle.std.proofs.Common.{◌≡◌, ℕ, ◌+◌, ◌-◌, ◌<◌, ◌≤◌, zero, suc, Bool, true, false, Option, Some, None, Result, Ok, List, [], ◌∷◌, ◌++◌, map, take, length, get_or, ⊎_elim, refl, sym, ap, subst, ◌∙◌, arith}
+use Rattle.std.specs.Prelude.{cond, drop, replicate, is_some, nat_lt, ◌&&◌, IfSome}
+use Rattle.std.proofs.Common.{◌≡◌, ℕ, ◌+◌, ◌-◌, ◌<◌, ◌≤◌, zero, suc, Bool, true, false, Option, Some, None, Ok, List, [], ◌∷◌, ◌++◌, map, take, length, get_or, ⊎_elim, refl, sym, ap, subst, ◌∙◌, arith}
 use Rattle.std.proofs.lemmas.Bool.{and_parts, cases_Bool, cases_lt, ltb-true, ltb-false}
 use Rattle.std.proofs.lemmas.List.{append-nil, drop_all, length-append, length-map, length-replicate, length-take, take_all}
 use Rattle.sky_base.specs.declared.moment.Moment.{Moment}
 use Rattle.sky_entry.specs.Entry.{entry_bytes}
-use Rattle.sky_journal.specs.Journal.{JournalView, IsJournal, SameButSpare, StandsFor, entries, new_area, number_behind, numbered_in}
-use Rattle.sky_journal.specs.Text.{Read, numbered}
+use Rattle.sky_journal.specs.Journal.{JournalView, SameButSpare, entries, new_area, number_behind, numbered_in}
+use Rattle.sky_journal.specs.Text.{numbered}
 use Rattle.sky_journal.specs.declared.open_area.OpenArea.{OpenArea}
 use Rattle.sky_journal.proofs.AreaWords.{numbered-length}
 use Rattle.sky_nfs.specs.History.{History, IsLegalHistory, history_length, last_tree}
@@ -18,15 +17,14 @@ use Rattle.sky_outside.specs.Moments.{LeavesOnly}
 use Rattle.sky_outside.specs.Told.{BothTold, WhereTold}
 use Rattle.sky_outside.specs.declared.storage.Storage.{Ghosts}
 use Rattle.sky_outside.proofs.ToldLaws.{WhereTold-at, WhereTold-from}
-use Rattle.sky_recover.specs.Opening.{BeginsAt, Found, HasEntries, IsFoundOn, IsOpenOn, KeepsAreas, LeavesFound, WhereBothTold}
-use Rattle.sky_script.specs.Frame.{OutFrame, session_count}
+use Rattle.sky_recover.specs.Opening.{BeginsAt, Found, HasEntries, IsFoundOn, IsOpenOn, KeepsAreas, LeavesFound}
+use Rattle.sky_script.specs.Frame.{session_count}
 use Rattle.sky_settings.specs.declared.settings.Fields.{Fields}
 use Rattle.sky_sound.specs.Boot.{claimed}
 use Rattle.sky_sound.specs.Cloud.{checkpoint_in, cloud_tree, covers_of, epoch_after}
 use Rattle.sky_sound.specs.Recovery.{FindsSame, IsSound, history_of}
 use Rattle.sky_sound.proofs.Claims.{checkpoint_in-claimed, epoch_after-claimed}
 use Rattle.sky_sound.proofs.Texts.{ok_same}
-use Rattle.sky_world.specs.declared.sessions.Session.{Session}
 use Rattle.sky_world.specs.declared.sessions.Session.TheVariants.{Absent}
 use Rattle.sky_world.specs.Disk.{AreStorable, HasKept, IsKeptOn, entries_to}
 use Rattle.sky_world.specs.Finding.{FindsPrefix, LeavesFinding}

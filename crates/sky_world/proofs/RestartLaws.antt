@@ -1,14 +1,13 @@
 -- Laws of a restart of a site that tells what it has: it shows how many changes it found.
 use Rattle.std.specs.Prelude.{nat_lt}
-use Rattle.std.proofs.Common.{◌≡◌, ℕ, ◌+◌, ◌-◌, ◌≤◌, Bool, true, false, List, [], ◌∷◌, length, take, refl, sym, ap, ◌∙◌, arith}
+use Rattle.std.proofs.Common.{◌≡◌, ℕ, ◌+◌, ◌-◌, ◌≤◌, Bool, true, false, List, [], ◌∷◌, take, sym, ap, ◌∙◌, arith}
 use Rattle.std.proofs.lemmas.Bool.{le-ltb, true≢false}
 use Rattle.std.proofs.lemmas.List.{length-take}
 use Rattle.sky_nfs.specs.History.{History, history_length}
-use Rattle.sky_nfs.specs.declared.call.Change.{Change}
 use Rattle.sky_recover.specs.Opening.{Found}
 use Rattle.sky_script.specs.Frame.{OutFrame, Opened}
 use Rattle.sky_world.specs.Laws.{IsMarked}
-use Rattle.sky_world.specs.Meaning.{State, Kept, Restarts, as_known, untold, Reopens, covered_found, cut_to, found_to, kept_found}
+use Rattle.sky_world.specs.Meaning.{State, Restarts, as_known, untold, Reopens, covered_found, cut_to, kept_found}
 
 -- a history that is cut within it has so many changes
 pub cut_length : (n : ℕ) (h : History) → h.before ≤ n → n ≤ history_length h → history_length (cut_to n h) ≡ n

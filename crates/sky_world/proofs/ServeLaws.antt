@@ -1,5 +1,5 @@
 -- Laws of what answers a record: by what it means, or put off, or since there was no memory.
-use Rattle.std.proofs.Common.{◌≡◌, ℕ, ◌≤◌, IsTrue, Option, Some, None, Result, Ok, Err, IfOk, OnErr, OnOk, List, [], ◌∷◌, ◌++◌, length, inl, inr, refl, sym, ap, subst, ◌∙◌, arith}
+use Rattle.std.proofs.Common.{◌≡◌, ℕ, ◌≤◌, IsTrue, Option, Some, Result, Ok, Err, IfOk, OnErr, OnOk, List, ◌++◌, length, inl, inr, refl, sym, ap, subst, ◌∙◌, arith}
 use Rattle.std.proofs.Math.Seq.{drop-append_seam}
 use Rattle.std.proofs.lemmas.List.{length-append}
 use Rattle.sky_args.specs.Args.{args_bytes}

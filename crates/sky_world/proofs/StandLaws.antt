@@ -1,5 +1,5 @@
 -- Laws of the states that the world stands for.
-use Rattle.std.proofs.Common.{◌≡◌, ℕ, ◌+◌, ◌<◌, Bool, false, Option, Some, None, List, [], ◌∷◌, ◌++◌, length, get_or, set, take, ⊎_elim, refl, sym, ap, subst, ◌∙◌, arith}
+use Rattle.std.proofs.Common.{◌≡◌, ℕ, ◌<◌, Bool, false, Option, List, [], ◌∷◌, ◌++◌, get_or, set, take, ⊎_elim, refl, sym, ap, subst, ◌∙◌, arith}
 use Rattle.std.specs.Prelude.{IsSome}
 use Rattle.std.proofs.lemmas.Bool.{cases_eq}
 use Rattle.std.proofs.lemmas.List.{length-set, set-get_or, get_or-set_same, get_or-set_other}
@@ -8,7 +8,7 @@ use Rattle.sky_journal.specs.Journal.{JournalView, last_of, number_behind}
 use Rattle.sky_nfs.specs.History.{history_length}
 use Rattle.sky_outside.specs.CloudMap.{CloudMap}
 use Rattle.sky_outside.specs.Moments.{SameCloud}
-use Rattle.sky_outside.specs.Told.{BothTold, Given, GivenPart, WhereTold}
+use Rattle.sky_outside.specs.Told.{BothTold, Given, GivenPart}
 use Rattle.sky_outside.specs.declared.storage.Storage.{Ghosts}
 use Rattle.sky_outside.proofs.ToldLaws.{Given-none, WhereTold-at, WhereTold-from}
 use Rattle.sky_record.specs.Stream.{Received, nothing}

@@ -1,15 +1,15 @@
 -- Laws of a restart without the journal: all areas are closed, and then the site is opened.
-use Rattle.std.specs.Prelude.{is_some, ◌&&◌, IfSome}
-use Rattle.std.proofs.Common.{◌≡◌, ◌⊎◌, ℕ, ◌+◌, ◌-◌, ◌<◌, ◌≤◌, Bool, true, false, Option, Some, None, Result, Ok, List, [], ◌∷◌, ◌++◌, map, take, length, inl, inr, ⊎_elim, refl, sym, ap, subst, ◌∙◌, arith}
+use Rattle.std.specs.Prelude.{is_some, ◌&&◌}
+use Rattle.std.proofs.Common.{◌≡◌, ◌⊎◌, ℕ, ◌+◌, ◌-◌, ◌≤◌, true, false, Option, Some, None, Ok, List, [], ◌∷◌, ◌++◌, map, take, length, inl, inr, ⊎_elim, refl, sym, ap, subst, ◌∙◌, arith}
 use Rattle.std.proofs.lemmas.Bool.{cases_Bool}
 use Rattle.std.proofs.lemmas.List.{append-nil, length-append, length-map, length-take, map-append, take-map, take-take, take_at}
 use Rattle.sky_entry.specs.Entry.{entry_bytes}
-use Rattle.sky_journal.specs.Journal.{JournalView, AreInOrder, IsJournal, Reads, ReadsAs, StandsFor, base_in, entries, numbered_in, wiped, without_newer}
-use Rattle.sky_journal.specs.Text.{Read, numbered}
+use Rattle.sky_journal.specs.Journal.{JournalView, AreInOrder, Reads, ReadsAs, StandsFor, base_in, entries, numbered_in, wiped, without_newer}
+use Rattle.sky_journal.specs.Text.{numbered}
 use Rattle.sky_journal.specs.declared.open_area.OpenArea.{OpenArea}
 use Rattle.sky_journal.proofs.Journals.{IsJournal-wiped, StandsFor-but}
 use Rattle.sky_journal.proofs.Reading.{reads, reads-later}
-use Rattle.sky_nfs.specs.History.{History, history_length}
+use Rattle.sky_nfs.specs.History.{History}
 use Rattle.sky_nfs.specs.declared.call.Change.{Change}
 use Rattle.sky_outside.specs.CloudMap.{CloudMap}
 use Rattle.sky_outside.specs.Moments.{BesideObjects, LeavesOnly, SameCloud}
@@ -27,7 +27,7 @@ use Rattle.sky_world.specs.Meaning.{Kept, State, Restarts, covered_found, cut_to
 use Rattle.sky_world.specs.Opening.{reopened_world}
 use Rattle.sky_world.specs.World.{IsBeside, Stands, WorldView, tells}
 use Rattle.sky_world.proofs.FindingLaws.{Begins, begins_at, both_told_at, both_told_from, finds_at, finds_same, history_at, leaves_as, leaves_finding, legal_cut, prefix_read, stands_begins, storable_take}
-use Rattle.sky_world.proofs.ReopenLaws.{Has, IsNew, disk_of, found_known, has_told, is_new, restarts_known, restarts_untold, stands_again, told_on, with_spare}
+use Rattle.sky_world.proofs.ReopenLaws.{IsNew, disk_of, found_known, has_told, is_new, restarts_known, restarts_untold, stands_again, told_on, with_spare}
 
 -- ---- what the older area has
 

@@ -1,6 +1,6 @@
 -- What recovery finds of the history, after a crash at any moment of a step.
 use Rattle.std.specs.Prelude.{◌≡◌, ℕ, ◌≤◌, List, Ok}
-use Rattle.sky_nfs.specs.History.{History, history_length, tree_at_length}
+use Rattle.sky_nfs.specs.History.{history_length, tree_at_length}
 use Rattle.sky_outside.specs.CloudMap.{CloudMap}
 use Rattle.sky_outside.specs.Moments.{LeavesOnly, MayLeaveNow}
 use Rattle.sky_outside.specs.declared.storage.Storage.{Ghosts}

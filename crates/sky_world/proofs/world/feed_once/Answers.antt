@@ -1,9 +1,8 @@
-use Rattle.std.proofs.Common.{refl, true, false, is_some, take, [], ◌∷◌}
+use Rattle.std.proofs.Common.{refl, false, is_some, [], ◌∷◌}
 use Rattle.sky_base.specs.declared.status.Status.TheVariants.{JournalFault, SinkFault}
 use Rattle.sky_outside.proofs.ToldLaws.{Given-none}
 use Rattle.sky_record.specs.Stream.{nothing}
 use Rattle.sky_script.specs.Frame.{Closed}
-use Rattle.sky_world.specs.Feeding.{more}
 use Rattle.sky_world.specs.Meaning.{frame_for}
 use Rattle.sky_world.proofs.FeedLaws.{err_inside, fails_message, feeds_message, feeds_more, feeds_too_long, given_one, given_part_one}
 use Rattle.sky_world.proofs.world.feed_once.Goals as goal

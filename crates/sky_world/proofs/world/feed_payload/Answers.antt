@@ -11,6 +11,7 @@ loop-taken-init g c = record {
   size = refl;
   quiet = refl;
   still = refl;
+  cloud = refl;
 }
 
 pub loop-taken-preserved : goal.loop-taken-preserved
@@ -25,6 +26,7 @@ loop-taken-preserved g c =
       size = c.in-Ok.ensures.size ∙ l.invariant.size;
       quiet = c.in-Ok.ensures.cause.quiet (λ e. absurd cc) ∙ l.invariant.quiet;
       still = c.in-Ok.ensures.disk_cause.quiet (λ e. absurd cc) ∙ l.invariant.still;
+      cloud = c.in-Ok.ensures.cloud ∙ l.invariant.cloud;
     }
 
 pub returns-then-not-stays-clause-ok : goal.returns-then-not-stays-clause-ok

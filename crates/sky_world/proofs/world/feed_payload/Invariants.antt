@@ -10,6 +10,7 @@ invariant-loop-taken g l = record {
   size : g.D.Storage.bytes_of l.disk ≡ g.D.Storage.bytes_of l.initial.disk;
   quiet : g.K.Sink.faults l.sink ≡ g.K.Sink.faults l.initial.sink;
   still : g.D.Storage.disk_faults l.disk ≡ g.D.Storage.disk_faults l.initial.disk;
+  cloud : g.D.Storage.cloud_faults l.disk ≡ g.D.Storage.cloud_faults l.initial.disk;
 }
 
 abbrev pub decreases-loop-taken : goal.decreases-loop-taken

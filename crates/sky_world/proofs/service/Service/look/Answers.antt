@@ -1,7 +1,7 @@
-use Rattle.std.proofs.Common.{◌≡◌, true, false, Bool, refl, sym, ap, ◌∙◌}
+use Rattle.std.proofs.Common.{refl, sym, ◌∙◌}
 use Rattle.sky_calls.proofs.Carried.{ok_at}
-use Rattle.sky_calls.specs.Durable.{HoldsMore, LeavesOldOrMore}
-use Rattle.sky_journal.specs.Journal.{JournalView, SameButSpare, StandsOn, after_commit}
+use Rattle.sky_calls.specs.Durable.{HoldsMore}
+use Rattle.sky_journal.specs.Journal.{SameButSpare, StandsOn, after_commit}
 use Rattle.sky_world.specs.World.{ServiceView}
 use Rattle.sky_world.proofs.CarryLaws.{becomes_committed, becomes_down, becomes_read}
 use Rattle.sky_world.proofs.service.Service.look.Goals as goal

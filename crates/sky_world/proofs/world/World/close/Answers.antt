@@ -11,6 +11,6 @@ returns c =
     let w = c.self.inside in
     let n = c.args.session in
     let next = c.closed-next.result in
-    let with_sessions = λ (ss : List Session). let v : WorldView = record { service = w.service; sessions = ss; ended = w.ended } in v in
+    let with_sessions = λ (ss : List Session). let v : WorldView = record { settings = w.settings; service = w.service; sessions = ss; ended = w.ended } in v in
     rw (← c.self.view_is) (ap with_sessions
     (c.put.ensures ∙ ap (λ (ss : List Session). set ss n next) c.take.ensures.left ∙ set-set w.sessions n Absent next ∙ ap (λ (s : Session). set w.sessions n s) (c.closed-next.ensures.value ∙ ap closed c.take.ensures.taken)))

@@ -1,4 +1,4 @@
-use Rattle.std.proofs.Common.{◌≡◌, ◌∙◌, List, set, sym, ap, subst}
+use Rattle.std.proofs.Common.{◌∙◌, List, set, sym, ap}
 use Rattle.std.proofs.lemmas.List.{set-set}
 use Rattle.sky_world.specs.declared.sessions.Session.{Session}
 use Rattle.sky_world.specs.declared.sessions.Session.TheVariants.{Absent}
