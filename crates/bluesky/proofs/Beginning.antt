@@ -174,6 +174,13 @@ module _ {S : Type 0} (g : Ghosts S) (s t : S) (found : Found) (on : IsFoundOn g
       ran_as g s t v status.SourceFault source sink is
       (ran_none status.SourceFault source sink (omega arith, within_magic none.0 refl none.1 none.2, ending, (refl, refl)))
 
+-- from another count of its sink's faults, which is the same
+pub ran_counted : {S : Type 0} (g : Ghosts S) (s t : S) (v : Status) (source : SourceUse) (before after : Option (List ℕ)) (x y z : ℕ) → y ≡ x
+    → RanOn g s t v source (record { before = before; after = after; faults_before = y; faults_after = z })
+    → Ran g s t v source (record { before = before; after = after; faults_before = x; faults_after = z })
+ran_counted g s t v source before after x y z same ran =
+    inr (subst (λ (n : ℕ). RanOn g s t v source (record { before = before; after = after; faults_before = n; faults_after = z })) same ran)
+
 -- ---- a run whose opening failed
 
 -- The sink had been given before, then the magic, what the opening gave it, and what followed it; its count was x up to the opening, y behind it, and z at the end.

@@ -1,9 +1,11 @@
 //! Calls on the file tree, as the bytes of a recording and of its answers.
 
+ghost use Rattle.sky_outside.specs.Moments.{NothingPending};
+
 use super::*;
 
 /// Bytes, so many times over.
-type Piece<'a> = (&'a [u8], usize);
+pub type Piece<'a> = (&'a [u8], usize);
 
 /// The status of an answer, how many bytes its results have, and what stands in them from this place on.
 type Answer<'a> = (u32, usize, usize, &'a [Piece<'a>]);
@@ -11,13 +13,13 @@ type Answer<'a> = (u32, usize, usize, &'a [Piece<'a>]);
 /// A procedure of NFS and its arguments, and the answer.
 type Row = (u32, &'static [Piece<'static>], Answer<'static>);
 
-const NFS: u32 = 100_003;
+pub const NFS: u32 = 100_003;
 
 const MOUNT: u32 = 100_005;
 
-const ROOT: Piece<'static> = (b"\0\0\0\x10\0\0\0\0\0\0\0\x01\0\0\0\0\0\0\0\x01", 1);
+pub const ROOT: Piece<'static> = (b"\0\0\0\x10\0\0\0\0\0\0\0\x01\0\0\0\0\0\0\0\x01", 1);
 
-const NODE_2: Piece<'static> = (b"\0\0\0\x10\0\0\0\0\0\0\0\x01\0\0\0\0\0\0\0\x02", 1);
+pub const NODE_2: Piece<'static> = (b"\0\0\0\x10\0\0\0\0\0\0\0\x01\0\0\0\0\0\0\0\x02", 1);
 
 const NODE_3: Piece<'static> = (b"\0\0\0\x10\0\0\0\0\0\0\0\x01\0\0\0\0\0\0\0\x03", 1);
 
@@ -33,10 +35,10 @@ const NODE_7: Piece<'static> = (b"\0\0\0\x10\0\0\0\0\0\0\0\x01\0\0\0\0\0\0\0\x07
 const SOME: Piece<'static> = (b"\0\0\0\x01", 1);
 
 /// No attribute is set (sattr3, RFC 1813 section 2.6).
-const KEEP: Piece<'static> = (b"\0\0\0\0", 6);
+pub const KEEP: Piece<'static> = (b"\0\0\0\0", 6);
 
 /// UNCHECKED.
-const UNCHECKED: Piece<'static> = (b"\0\0\0\0", 1);
+pub const UNCHECKED: Piece<'static> = (b"\0\0\0\0", 1);
 
 /// EXCLUSIVE, with the verifiers 7 and 8.
 const EXCLUSIVE_7: Piece<'static> = (b"\0\0\0\x02\0\0\0\0\0\0\0\x07", 1);
@@ -53,7 +55,7 @@ const SIZE_32768: Piece<'static> = (b"\0\0\0\0\0\0\x80\0", 1);
 const SIZE_98303: Piece<'static> = (b"\0\0\0\0\0\x01\x7f\xff", 1);
 
 /// From the first entry on, and from behind the cookie 3 on, without a verifier.
-const FIRST: Piece<'static> = (b"\0\0\0\0\0\0\0\0\0\0\0\0\0\0\0\0", 1);
+pub const FIRST: Piece<'static> = (b"\0\0\0\0\0\0\0\0\0\0\0\0\0\0\0\0", 1);
 
 const BEHIND_3: Piece<'static> = (b"\0\0\0\0\0\0\0\x03\0\0\0\0\0\0\0\0", 1);
 
@@ -69,11 +71,11 @@ const DOT_DOT: Piece<'static> = (
     1,
 );
 
-const A: Piece<'static> = (b"\0\0\0\x01a\0\0\0", 1);
+pub const A: Piece<'static> = (b"\0\0\0\x01a\0\0\0", 1);
 
-const B: Piece<'static> = (b"\0\0\0\x01b\0\0\0", 1);
+pub const B: Piece<'static> = (b"\0\0\0\x01b\0\0\0", 1);
 
-const C: Piece<'static> = (b"\0\0\0\x01c\0\0\0", 1);
+pub const C: Piece<'static> = (b"\0\0\0\x01c\0\0\0", 1);
 
 const D: Piece<'static> = (b"\0\0\0\x01d\0\0\0", 1);
 
@@ -99,8 +101,6 @@ const EOF: Piece<'static> = (b"\0\0\0\0\0\0\0\x01", 1);
 const WRITE: Piece<'static> = (b"\0\x01\0\0\0\0\0\0\0\x01\0\0", 1);
 
 const DATA: Piece<'static> = (b"M", 65_536);
-
-const NODE_303: Piece<'static> = (b"\0\0\0\x10\0\0\0\0\0\0\0\x01\0\0\0\0\0\0\x01\x2f", 1);
 
 const FOLDER: Piece<'static> = (b"\0\0\0\x06folder\0\0", 1);
 
@@ -237,22 +237,7 @@ const FILE_SYNC: Piece<'static> = (
     1,
 );
 
-const WHOLE: Piece<'static> = (b"\0\0\0\0", 3);
-
-/// A procedure of NFS and its arguments; and behind it how many changes there are, and how many of them are stable.
-type Count = (u32, &'static [Piece<'static>], u64, u64);
-
-static COUNTS: [Count; 7] = [
-    (8, &[ROOT, A, UNCHECKED, KEEP], 1, 1),
-    (7, &[NODE_2, UNSTABLE], 2, 1),
-    (7, &[NODE_2, UNSTABLE], 3, 1),
-    (21, &[NODE_2, WHOLE], 3, 3),
-    (7, &[NODE_2, UNSTABLE], 4, 3),
-    // MKDIR of a name that is there is refused.
-    (9, &[ROOT, A, KEEP], 4, 3),
-    // What is stable makes all before it stable.
-    (7, &[NODE_2, FILE_SYNC], 5, 5),
-];
+pub const WHOLE: Piece<'static> = (b"\0\0\0\0", 3);
 
 /// These pieces, one after the other.
 fn joined(alloc: Global, pieces: &[Piece<'_>]) -> Result<Vec<u8>, Fail> {
@@ -286,7 +271,7 @@ fn record_of(
 }
 
 /// Adds the frame with a call.
-fn put_call(
+pub fn put_call(
     alloc: Global,
     bytes: &mut Vec<u8>,
     program: u32,
@@ -297,17 +282,23 @@ fn put_call(
     put_frame(bytes, (2, 0, &record))
 }
 
-/// What is written for a recording, behind the opening.
-fn replayed(alloc: Global, mut bytes: Vec<u8>) -> Result<Vec<u8>, Fail> {
+/// What is written for a recording over this site, behind the opening.
+fn replayed<P: Site>(alloc: Global, site: &mut P, mut bytes: Vec<u8>) -> Result<Vec<u8>, Fail>
+    requires { NothingPending P.Storage site.old }
+{
     put_frame(&mut bytes, (99, 0, &[]))?;
     let mut source = source_of(alloc, &bytes, &[])?;
-    let mut site = new_site(alloc)?;
-    let (status, sink) = replay(alloc, &mut source, &mut site, &[])?;
+    let (status, sink) = replay(alloc, &mut source, site, &[])?;
     if status != Status::Done {
         return Err("not done".into());
     }
     let (_, answers) = sink.bytes().split_at_checked(37).ok_or("no opening")?;
     Ok(Vec::from_slice(alloc, answers)?)
+}
+
+/// A blank site whose disk is kept whole.
+fn large_site(alloc: Global) -> Result<SureSite, Fail> {
+    Ok(SureSite::new(alloc, DISK_BYTES)?)
 }
 
 /// The number of 4 bytes that comes next, and what follows it.
@@ -317,7 +308,7 @@ fn word(rest: &[u8]) -> Result<(u32, &[u8]), Fail> {
 }
 
 /// The results of the reply that comes next, and what follows the reply.
-fn reply(rest: &[u8]) -> Result<(&[u8], &[u8]), Fail> {
+pub fn reply(rest: &[u8]) -> Result<(&[u8], &[u8]), Fail> {
     let rest = rest.strip_prefix(b"\x02\0\0\0\0").ok_or("no reply")?;
     let (length, rest) = word(rest)?;
     let (reply, rest) = rest.split_at_checked(length as usize).ok_or("cut")?;
@@ -348,18 +339,35 @@ fn answered<'a>(
     Ok(rest)
 }
 
+/// Adds these calls.
+fn put_rows(alloc: Global, bytes: &mut Vec<u8>, rows: &[Row]) -> Result<(), Fail> {
+    for (procedure, args, _) in rows {
+        put_call(alloc, bytes, NFS, *procedure, args)?;
+    }
+    Ok(())
+}
+
+/// That these calls are answered so. What follows the answers.
+fn rows_answered<'a>(
+    rt: &impl Abort,
+    alloc: Global,
+    mut rest: &'a [u8],
+    rows: &[Row],
+) -> Result<&'a [u8], Fail> {
+    for (_, _, wanted) in rows {
+        rest = answered(rt, alloc, rest, *wanted)?;
+    }
+    Ok(rest)
+}
+
 #[test]
 fn calls_are_answered_in_one_tree(rt: HostRuntime) -> Result<(), Fail> {
     let alloc = rt.alloc();
     let mut bytes = recording(alloc, &[(1, 0, &[])])?;
-    for (procedure, args, _) in &ROWS {
-        put_call(alloc, &mut bytes, NFS, *procedure, args)?;
-    }
-    let answers = replayed(alloc, bytes)?;
-    let mut rest = answers.as_slice();
-    for (_, _, wanted) in &ROWS {
-        rest = answered(&rt, alloc, rest, *wanted)?;
-    }
+    put_rows(alloc, &mut bytes, &ROWS)?;
+    let answers = replayed(alloc, &mut large_site(alloc)?, bytes)?;
+    let rest = rows_answered(&rt, alloc, &answers, &ROWS)?;
+    assert_eq!(rt; rest.len(), 21);
     Ok(())
 }
 
@@ -382,93 +390,6 @@ fn counted<'a>(
     Ok(rest)
 }
 
-#[test]
-fn what_is_stable_is_shown(rt: HostRuntime) -> Result<(), Fail> {
-    let alloc = rt.alloc();
-    let mut bytes = recording(alloc, &[(1, 0, &[]), (16, 0, &[])])?;
-    for (procedure, args, _, _) in &COUNTS {
-        put_call(alloc, &mut bytes, NFS, *procedure, args)?;
-        put_frame(&mut bytes, (16, 0, &[]))?;
-    }
-    let answers = replayed(alloc, bytes)?;
-    let mut rest = counted(&rt, &answers, 0, 0, 1)?;
-    for (_, _, history, mark) in &COUNTS {
-        rest = reply(rest)?.1;
-        rest = counted(&rt, rest, *history, *mark, 1)?;
-    }
-    Ok(())
-}
-
-/// READ from 0 on, and what it gives: nothing, and `hello`.
-const FROM_START: Piece<'static> = (b"\0\0\0\0\0\0\0\0\0\0\0\x10", 1);
-
-const NOTHING: Answer<'static> = (0, 104, 92, &[(b"\0\0\0\0\0\0\0\x01\0\0\0\0", 1)]);
-
-const HELLO: Answer<'static> = (
-    0,
-    112,
-    92,
-    &[(b"\0\0\0\x05\0\0\0\x01\0\0\0\x05hello\0\0\0", 1)],
-);
-
-/// CREATE of `a`; and WRITE of `hello`, UNSTABLE, in the first epoch.
-const CREATED: Row = (8, &[ROOT, A, UNCHECKED, KEEP], (0, 232, 4, &[SOME, NODE_2]));
-
-const WRITTEN: Row = (
-    7,
-    &[NODE_2, UNSTABLE],
-    (0, 136, 120, &[(b"\0\0\0\x05\0\0\0\0\0\0\0\0\0\0\0\x01", 1)]),
-);
-
-/// Both, and READ.
-static UNCOMMITTED: [Row; 3] = [CREATED, WRITTEN, (6, &[NODE_2, FROM_START], HELLO)];
-
-/// Behind a restart: the file is empty.
-static LOST: [Row; 1] = [(6, &[NODE_2, FROM_START], NOTHING)];
-
-/// Both, and then COMMIT.
-static COMMITTED: [Row; 3] = [
-    CREATED,
-    WRITTEN,
-    (
-        21,
-        &[NODE_2, WHOLE],
-        (0, 128, 120, &[(b"\0\0\0\0\0\0\0\x01", 1)]),
-    ),
-];
-
-/// Behind a restart: the file has `hello`, and the verifier of a WRITE is the second epoch.
-static FOUND: [Row; 2] = [
-    (6, &[NODE_2, FROM_START], HELLO),
-    (
-        7,
-        &[NODE_2, UNSTABLE],
-        (0, 136, 120, &[(b"\0\0\0\x05\0\0\0\0\0\0\0\0\0\0\0\x02", 1)]),
-    ),
-];
-
-/// Adds a session with these calls.
-fn put_rows(alloc: Global, bytes: &mut Vec<u8>, rows: &[Row]) -> Result<(), Fail> {
-    put_frame(bytes, (1, 0, &[]))?;
-    for (procedure, args, _) in rows {
-        put_call(alloc, bytes, NFS, *procedure, args)?;
-    }
-    Ok(())
-}
-
-/// That the calls are answered so. What follows the answers.
-fn rows_answered<'a>(
-    rt: &impl Abort,
-    alloc: Global,
-    mut rest: &'a [u8],
-    rows: &[Row],
-) -> Result<&'a [u8], Fail> {
-    for (_, _, wanted) in rows {
-        rest = answered(rt, alloc, rest, *wanted)?;
-    }
-    Ok(rest)
-}
-
 /// That the next frame is that of an opening in the second epoch, which found so many changes in the journal. What follows it.
 fn reopened<'a>(rt: &impl Abort, rest: &'a [u8], changes: u8) -> Result<&'a [u8], Fail> {
     let (frame, rest) = rest.split_at_checked(29).ok_or("no opening")?;
@@ -482,51 +403,179 @@ fn reopened<'a>(rt: &impl Abort, rest: &'a [u8], changes: u8) -> Result<&'a [u8]
     Ok(rest)
 }
 
-/// That a restart between these calls finds so many changes.
-fn restarted(
+/// What is sent, and what is answered.
+#[derive(Clone, Copy)]
+enum Exchange {
+    /// A call, and its answer.
+    Call(Row),
+    /// The frame that asks for numbers: how many changes there are, how many of them are stable, and the epoch.
+    Numbers(u64, u64, u64),
+    /// A frame of this kind, a restart, in whose opening so many changes are found; and the session begins again.
+    Restart(u8, u8),
+}
+
+use Exchange::{Call, Numbers, Restart};
+
+/// CREATE of `a`; WRITEs of `hello`, UNSTABLE in the first epoch and in the second, and FILE_SYNC; and COMMIT.
+const CREATED: Exchange = Call((8, &[ROOT, A, UNCHECKED, KEEP], (0, 232, 4, &[SOME, NODE_2])));
+
+const WRITTEN: Exchange = Call((
+    7,
+    &[NODE_2, UNSTABLE],
+    (0, 136, 120, &[(b"\0\0\0\x05\0\0\0\0\0\0\0\0\0\0\0\x01", 1)]),
+));
+
+const WRITTEN_LATER: Exchange = Call((
+    7,
+    &[NODE_2, UNSTABLE],
+    (0, 136, 120, &[(b"\0\0\0\x05\0\0\0\0\0\0\0\0\0\0\0\x02", 1)]),
+));
+
+const WRITTEN_STABLE: Exchange = Call((
+    7,
+    &[NODE_2, FILE_SYNC],
+    (
+        0,
+        136,
+        120,
+        &[(b"\0\0\0\x05\0\0\0\x02\0\0\0\0\0\0\0\x01", 1)],
+    ),
+));
+
+const COMMITTED: Exchange = Call((
+    21,
+    &[NODE_2, WHOLE],
+    (0, 128, 120, &[(b"\0\0\0\0\0\0\0\x01", 1)]),
+));
+
+/// READ from 0 on: it gives `hello`, or nothing.
+pub const FROM_START: Piece<'static> = (b"\0\0\0\0\0\0\0\0\0\0\0\x10", 1);
+
+const READ_HELLO: Exchange = Call((
+    6,
+    &[NODE_2, FROM_START],
+    (
+        0,
+        112,
+        92,
+        &[(b"\0\0\0\x05\0\0\0\x01\0\0\0\x05hello\0\0\0", 1)],
+    ),
+));
+
+const READ_NOTHING: Exchange = Call((
+    6,
+    &[NODE_2, FROM_START],
+    (0, 104, 92, &[(b"\0\0\0\0\0\0\0\x01\0\0\0\0", 1)]),
+));
+
+static COUNTS: [Exchange; 15] = [
+    Numbers(0, 0, 1),
+    CREATED,
+    Numbers(1, 1, 1),
+    WRITTEN,
+    Numbers(2, 1, 1),
+    WRITTEN,
+    Numbers(3, 1, 1),
+    COMMITTED,
+    Numbers(3, 3, 1),
+    WRITTEN,
+    Numbers(4, 3, 1),
+    // MKDIR of a name that is there is refused. NFS3ERR_EXIST is 17.
+    Call((9, &[ROOT, A, KEEP], (17, 120, 0, &[]))),
+    Numbers(4, 3, 1),
+    // What is stable makes all before it stable.
+    WRITTEN_STABLE,
+    Numbers(5, 5, 1),
+];
+
+/// A restart loses what was not committed.
+static LOST: [Exchange; 5] = [CREATED, WRITTEN, READ_HELLO, Restart(20, 1), READ_NOTHING];
+
+/// It finds what was.
+static FOUND: [Exchange; 6] = [
+    CREATED,
+    WRITTEN,
+    COMMITTED,
+    Restart(20, 2),
+    READ_HELLO,
+    WRITTEN_LATER,
+];
+
+/// So does the next run.
+static FOUND_BY_NEXT: [Exchange; 3] = [Numbers(2, 2, 2), READ_HELLO, WRITTEN_LATER];
+
+/// A restart without the journal gives up the file `a`, which was there: CREATE GUARDED is answered NFS3ERR_EXIST before it.
+static GIVEN_UP: [Exchange; 5] = [
+    CREATED,
+    Numbers(1, 1, 1),
+    Call((8, &[ROOT, A, SOME, KEEP], (17, 120, 0, &[]))),
+    Restart(21, 0),
+    Numbers(0, 0, 2),
+];
+
+/// Adds what is sent.
+fn put_exchange(alloc: Global, bytes: &mut Vec<u8>, exchange: Exchange) -> Result<(), Fail> {
+    match exchange {
+        Call((procedure, args, _)) => put_call(alloc, bytes, NFS, procedure, args),
+        Numbers(..) => put_frame(bytes, (16, 0, &[])),
+        Restart(kind, _) => {
+            put_frame(bytes, (kind, 0, &[]))?;
+            put_frame(bytes, (1, 0, &[]))
+        }
+    }
+}
+
+/// That it is answered so. What follows the answer.
+fn exchanged<'a>(
     rt: &impl Abort,
     alloc: Global,
-    before: &[Row],
-    changes: u8,
-    behind: &[Row],
+    rest: &'a [u8],
+    exchange: Exchange,
+) -> Result<&'a [u8], Fail> {
+    match exchange {
+        Call((_, _, wanted)) => answered(rt, alloc, rest, wanted),
+        Numbers(history, mark, epoch) => counted(rt, rest, history, mark, epoch),
+        Restart(_, changes) => reopened(rt, rest, changes),
+    }
+}
+
+/// That a run over this site, with a session of these, answers so.
+fn check_exchanges(
+    rt: &impl Abort,
+    alloc: Global,
+    site: &mut SparseSite,
+    exchanges: &[Exchange],
 ) -> Result<(), Fail> {
-    let mut bytes = recording(alloc, &[])?;
-    put_rows(alloc, &mut bytes, before)?;
-    put_frame(&mut bytes, (20, 0, &[]))?;
-    put_rows(alloc, &mut bytes, behind)?;
-    let answers = replayed(alloc, bytes)?;
-    let rest = rows_answered(rt, alloc, &answers, before)?;
-    let rest = reopened(rt, rest, changes)?;
-    let rest = rows_answered(rt, alloc, rest, behind)?;
+    let mut bytes = recording(alloc, &[(1, 0, &[])])?;
+    for exchange in exchanges {
+        put_exchange(alloc, &mut bytes, *exchange)?;
+    }
+    let answers = replayed(alloc, site, bytes)?;
+    let mut rest = answers.as_slice();
+    for exchange in exchanges {
+        rest = exchanged(rt, alloc, rest, *exchange)?;
+    }
     assert_eq!(rt; rest.len(), 21);
     Ok(())
+}
+
+#[test]
+fn what_is_stable_is_shown(rt: HostRuntime) -> Result<(), Fail> {
+    let alloc = rt.alloc();
+    check_exchanges(&rt, alloc, &mut new_site(alloc)?, &COUNTS)
 }
 
 #[test]
 fn a_restart_finds_what_is_stable(rt: HostRuntime) -> Result<(), Fail> {
     let alloc = rt.alloc();
-    restarted(&rt, alloc, &UNCOMMITTED, 1, &LOST)?;
-    restarted(&rt, alloc, &COMMITTED, 2, &FOUND)
+    check_exchanges(&rt, alloc, &mut new_site(alloc)?, &LOST)?;
+    check_exchanges(&rt, alloc, &mut new_site(alloc)?, &FOUND)
 }
 
-/// A restart without the journal gives up the file `a`, which was there: NFS3ERR_EXIST is 17.
 #[test]
 fn a_restart_without_the_journal_finds_nothing(rt: HostRuntime) -> Result<(), Fail> {
     let alloc = rt.alloc();
-    let mut bytes = recording(alloc, &[])?;
-    put_rows(alloc, &mut bytes, &UNCOMMITTED[..1])?;
-    put_frame(&mut bytes, (16, 0, &[]))?;
-    put_call(alloc, &mut bytes, NFS, 8, &[ROOT, A, SOME, KEEP])?;
-    put_frame(&mut bytes, (21, 0, &[]))?;
-    put_frame(&mut bytes, (16, 0, &[]))?;
-    let answers = replayed(alloc, bytes)?;
-    let rest = rows_answered(&rt, alloc, &answers, &UNCOMMITTED[..1])?;
-    let rest = counted(&rt, rest, 1, 1, 1)?;
-    let rest = answered(&rt, alloc, rest, (17, 120, 0, &[]))?;
-    let rest = reopened(&rt, rest, 0)?;
-    let rest = counted(&rt, rest, 0, 0, 2)?;
-    assert_eq!(rt; rest.len(), 21);
-    Ok(())
+    check_exchanges(&rt, alloc, &mut new_site(alloc)?, &GIVEN_UP)
 }
 
 /// What was stable in one run is found by the next over the same site.
@@ -534,136 +583,131 @@ fn a_restart_without_the_journal_finds_nothing(rt: HostRuntime) -> Result<(), Fa
 fn the_next_run_finds_what_was_stable(rt: HostRuntime) -> Result<(), Fail> {
     let alloc = rt.alloc();
     let mut site = new_site(alloc)?;
-    let mut first = recording(alloc, &[])?;
-    put_rows(alloc, &mut first, &COMMITTED)?;
-    put_frame(&mut first, (99, 0, &[]))?;
-    let mut source = source_of(alloc, &first, &[])?;
-    let (status, _) = replay_over(alloc, &mut source, &mut site, &[])?;
-    assert_eq!(rt; status, Status::Done);
-    let mut next = recording(alloc, &[])?;
-    put_rows(alloc, &mut next, &FOUND)?;
-    put_frame(&mut next, (99, 0, &[]))?;
-    let mut source = source_of(alloc, &next, &[])?;
-    let (status, sink) = replay_over(alloc, &mut source, &mut site, &[])?;
-    assert_eq!(rt; status, Status::Done);
-    let (_, rest) = sink.bytes().split_at_checked(8).ok_or("no magic")?;
-    let rest = reopened(&rt, rest, 2)?;
-    let rest = rows_answered(&rt, alloc, rest, &FOUND)?;
-    assert_eq!(rt; rest.len(), 21);
-    Ok(())
+    check_exchanges(&rt, alloc, &mut site, &FOUND[..3])?;
+    check_exchanges(&rt, alloc, &mut site, &FOUND_BY_NEXT)
 }
 
-/// Two calls in one frame: in the second a call of the disk fails, and the first is answered.
+/// A session with two calls in one frame: CREATE of `a`, and of `b`.
+fn two_calls(alloc: Global) -> Result<Vec<u8>, Fail> {
+    let mut calls = record_of(alloc, NFS, 8, &[ROOT, A, UNCHECKED, KEEP])?;
+    let second = record_of(alloc, NFS, 8, &[ROOT, B, UNCHECKED, KEEP])?;
+    calls.extend_from_slice(&second)?;
+    recording(alloc, &[(1, 0, &[]), (2, 0, &calls), (99, 0, &[])])
+}
+
+/// In the second call of a frame a call of the disk fails, and the first is answered. Behind the opening a change is two writes with
+/// a sync each.
 #[test]
 fn a_disk_fails_in_a_change(rt: HostRuntime) -> Result<(), Fail> {
     let alloc = rt.alloc();
-    let mut calls = record_of(alloc, NFS, 8, &[ROOT, A, UNCHECKED, KEEP])?;
-    calls.extend_from_slice(&record_of(alloc, NFS, 8, &[ROOT, B, UNCHECKED, KEEP])?)?;
-    let mut bytes = recording(alloc, &[(1, 0, &[]), (2, 0, &calls)])?;
-    put_frame(&mut bytes, (99, 0, &[]))?;
-    let mut source = source_of(alloc, &bytes, &[])?;
-    // Behind the opening a change is two writes with a sync each.
+    let mut source = source_of(alloc, &two_calls(alloc)?, &[])?;
     let second = opening_calls(alloc)?.saturating_add(4);
     let mut site = failing_site(alloc, second, false)?;
-    let (status, sink) = replay_over(alloc, &mut source, &mut site, &[])?;
+    let (status, sink) = replay(alloc, &mut source, &mut site, &[])?;
     assert_eq!(rt; status, Status::JournalFault);
     let (_, answers) = sink.bytes().split_at_checked(37).ok_or("no opening")?;
     let rest = answered(&rt, alloc, answers, (0, 232, 4, &[SOME, NODE_2]))?;
-    assert_eq!(rt;
-        rest,
-        b"\x63\0\0\0\0\0\0\0\x0c\0\0\0\x06\0\0\0\0\0\0\0\0".as_slice()
-    );
+    let mut end = Vec::new(alloc);
+    put_end(&mut end, 6, 0)?;
+    assert_eq!(rt; rest, end.as_slice());
     Ok(())
 }
 
-/// A folder of 300 files, and a file of 160 pieces of 65,536 bytes beside it. The folder is listed as one page, and one of its
-/// files takes the place of another.
-fn folder(alloc: Global) -> Result<Vec<u8>, Fail> {
-    let mut bytes = recording(alloc, &[(1, 0, &[])])?;
-    put_call(alloc, &mut bytes, MOUNT, 1, &[(b"\0\0\0\x01/\0\0\0", 1)])?;
-    put_call(alloc, &mut bytes, NFS, 3, &[ROOT, FOLDER])?;
-    put_call(alloc, &mut bytes, NFS, 9, &[ROOT, FOLDER, KEEP])?;
+/// Before the files of a folder: LOOKUP and MKDIR of the folder, and a big file beside it. NFS3ERR_NOENT is 2.
+static BEFORE: [Row; 3] = [
+    (3, &[ROOT, FOLDER], (2, 92, 0, &[])),
+    (9, &[ROOT, FOLDER, KEEP], (0, 232, 4, &[SOME, NODE_2])),
+    (
+        8,
+        &[ROOT, BIG, UNCHECKED, KEEP],
+        (0, 232, 4, &[SOME, NODE_3]),
+    ),
+];
+
+/// Behind them and the pieces of the big file, which are committed: the folder is listed as one page, and one of its files takes the
+/// place of another. An entry of the page has 136 bytes and its name: two entries have names of 4 bytes, and 300 of 8.
+static BEHIND: [Row; 5] = [
+    (
+        21,
+        &[NODE_3, WHOLE],
+        (0, 128, 120, &[(b"\0\0\0\0\0\0\0\x01", 1)]),
+    ),
+    (
+        17,
+        &[NODE_2, FIRST, (b"\0\x01\0\0", 2)],
+        (0, 43_588, 43_580, &[EOF]),
+    ),
+    (14, &[NODE_2, FILE_000, NODE_2, FILE_001], (0, 236, 0, &[])),
+    (3, &[NODE_2, FILE_000], (2, 92, 0, &[])),
+    (3, &[NODE_2, FILE_001], (0, 200, 4, &[NODE_4])),
+];
+
+/// Adds the calls that make 300 files in the folder.
+fn put_files(alloc: Global, bytes: &mut Vec<u8>) -> Result<(), Fail> {
     for number in 0..300 {
         let text = format!(in alloc; "\0\0\0\x07file{number:03}\0")?;
         let name = (text.as_bytes(), 1);
-        put_call(alloc, &mut bytes, NFS, 8, &[NODE_2, name, UNCHECKED, KEEP])?;
+        put_call(alloc, bytes, NFS, 8, &[NODE_2, name, UNCHECKED, KEEP])?;
     }
-    put_call(alloc, &mut bytes, NFS, 8, &[ROOT, BIG, UNCHECKED, KEEP])?;
-    for piece in 0..160 {
-        let offset = u64::to_be_bytes(piece * 65_536);
-        put_call(
-            alloc,
-            &mut bytes,
-            NFS,
-            7,
-            &[NODE_303, (&offset, 1), WRITE, DATA],
-        )?;
-    }
-    put_call(alloc, &mut bytes, NFS, 21, &[NODE_303, (b"\0\0\0\0", 3)])?;
-    put_call(
-        alloc,
-        &mut bytes,
-        NFS,
-        17,
-        &[NODE_2, FIRST, (b"\0\x01\0\0", 2)],
-    )?;
-    put_call(
-        alloc,
-        &mut bytes,
-        NFS,
-        14,
-        &[NODE_2, FILE_000, NODE_2, FILE_001],
-    )?;
-    put_call(alloc, &mut bytes, NFS, 3, &[NODE_2, FILE_000])?;
-    put_call(alloc, &mut bytes, NFS, 3, &[NODE_2, FILE_001])?;
-    Ok(bytes)
+    Ok(())
 }
 
-/// How many entries a list of READDIRPLUS has, and the number behind them, which says whether the directory ends there.
-fn listed(mut rest: &[u8]) -> Result<(u32, u32), Fail> {
-    for count in 0..1000 {
-        let (follows, entry) = word(rest)?;
-        if follows == 0 {
-            return Ok((count, word(entry)?.0));
-        }
-        let (_, named) = entry.split_at_checked(8).ok_or("no fileid")?;
-        let (length, named) = word(named)?;
-        // The name and its padding; the cookie, the attributes and the handle.
-        let size = (length as usize).div_ceil(4) * 4 + 8 + 88 + 24;
-        rest = named.split_at_checked(size).ok_or("cut")?.1;
+/// That they are answered. What follows the answers.
+fn files_answered<'a>(
+    rt: &impl Abort,
+    alloc: Global,
+    mut rest: &'a [u8],
+) -> Result<&'a [u8], Fail> {
+    for number in 0..300 {
+        let fileid = u64::to_be_bytes(number + 4);
+        rest = answered(rt, alloc, rest, (0, 232, 20, &[(&fileid, 1)]))?;
     }
-    Err("no end".into())
+    Ok(rest)
+}
+
+/// Adds the calls that write 160 pieces of 65,536 bytes.
+fn put_pieces(alloc: Global, bytes: &mut Vec<u8>) -> Result<(), Fail> {
+    for piece in 0..160 {
+        let offset = u64::to_be_bytes(piece * 65_536);
+        let args = [NODE_3, (&offset, 1), WRITE, DATA];
+        put_call(alloc, bytes, NFS, 7, &args)?;
+    }
+    Ok(())
+}
+
+/// That they are answered. What follows the answers.
+fn pieces_answered<'a>(
+    rt: &impl Abort,
+    alloc: Global,
+    mut rest: &'a [u8],
+) -> Result<&'a [u8], Fail> {
+    for piece in 1..161 {
+        let size = u64::to_be_bytes(piece * 65_536);
+        rest = answered(rt, alloc, rest, (0, 136, 56, &[(&size, 2)]))?;
+    }
+    Ok(rest)
+}
+
+/// MOUNT of `/`, a folder of 300 files, and a file of 160 pieces of 65,536 bytes beside it.
+fn folder(alloc: Global) -> Result<Vec<u8>, Fail> {
+    let mut bytes = recording(alloc, &[(1, 0, &[])])?;
+    put_call(alloc, &mut bytes, MOUNT, 1, &[(b"\0\0\0\x01/\0\0\0", 1)])?;
+    put_rows(alloc, &mut bytes, &BEFORE)?;
+    put_files(alloc, &mut bytes)?;
+    put_pieces(alloc, &mut bytes)?;
+    put_rows(alloc, &mut bytes, &BEHIND)?;
+    Ok(bytes)
 }
 
 #[test]
 fn a_folder_of_300_files_is_one_page(rt: HostRuntime) -> Result<(), Fail> {
     let alloc = rt.alloc();
-    let answers = replayed(alloc, folder(alloc)?)?;
-    let mut rest = answered(&rt, alloc, &answers, (0, 36, 4, &[ROOT]))?;
-    // NFS3ERR_NOENT is 2.
-    rest = answered(&rt, alloc, rest, (2, 92, 0, &[]))?;
-    rest = answered(&rt, alloc, rest, (0, 232, 4, &[SOME, NODE_2]))?;
-    for number in 0..300 {
-        let fileid = u64::to_be_bytes(number + 3);
-        rest = answered(&rt, alloc, rest, (0, 232, 20, &[(&fileid, 1)]))?;
-    }
-    rest = answered(&rt, alloc, rest, (0, 232, 4, &[SOME, NODE_303]))?;
-    for piece in 1..161 {
-        let size = u64::to_be_bytes(piece * 65_536);
-        rest = answered(&rt, alloc, rest, (0, 136, 56, &[(&size, 2)]))?;
-    }
-    rest = answered(
-        &rt,
-        alloc,
-        rest,
-        (0, 128, 120, &[(b"\0\0\0\0\0\0\0\x01", 1)]),
-    )?;
-    let (page, mut rest) = reply(rest)?;
-    let (_, entries) = page.split_at_checked(100).ok_or("short")?;
-    assert_eq!(rt; listed(entries)?, (302, 1));
-    rest = answered(&rt, alloc, rest, (0, 236, 0, &[]))?;
-    rest = answered(&rt, alloc, rest, (2, 92, 0, &[]))?;
-    rest = answered(&rt, alloc, rest, (0, 200, 4, &[NODE_3]))?;
+    let answers = replayed(alloc, &mut large_site(alloc)?, folder(alloc)?)?;
+    let rest = answered(&rt, alloc, &answers, (0, 36, 4, &[ROOT]))?;
+    let rest = rows_answered(&rt, alloc, rest, &BEFORE)?;
+    let rest = files_answered(&rt, alloc, rest)?;
+    let rest = pieces_answered(&rt, alloc, rest)?;
+    let rest = rows_answered(&rt, alloc, rest, &BEHIND)?;
     assert_eq!(rt; rest.len(), 21);
     Ok(())
 }

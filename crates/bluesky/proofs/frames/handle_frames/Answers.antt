@@ -61,8 +61,12 @@ returns-in-Err-clause-replayed g c = stopped_replayed c.in-Err.stop c.loop.place
 pub returns-in-Err-clause-refused : goal.returns-in-Err-clause-refused
 returns-in-Err-clause-refused g c =
     λ told found stands is damage.
+    let written = g.K.Sink.written in
+    let faults = g.K.Sink.faults in
+    let n = c.next_frame.new.sink in
     let going = c.loop.invariant.going told found stands in
-    stopped_sound c.in-Err.stop c.loop.place c.finish.result _ going.state (c.in-Err.ensures.refused going.state going.stands) (going.told_now ∙ is) c.finish.ensures.finishes damage
+    stopped_sound c.in-Err.stop c.loop.place c.finish.result
+    (record { before = written n; after = written c.finish.new.sink; faults_before = faults n; faults_after = faults c.finish.new.sink }) going.state (c.in-Err.ensures.refused going.state going.stands) (going.told_now ∙ is) c.finish.ensures.finishes damage
 
 pub returns-in-Err-clause-source_cause : goal.returns-in-Err-clause-source_cause
 returns-in-Err-clause-source_cause g c =

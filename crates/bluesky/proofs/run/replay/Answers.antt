@@ -1,11 +1,11 @@
-use Rattle.std.proofs.Common.{ap, subst, sym, IsErrOf}
+use Rattle.std.proofs.Common.{◌∙◌, ap, subst, sym, IsErrOf}
 use Rattle.sky_base.specs.declared.status.Status.{Status}
 use Rattle.sky_base.specs.declared.status.Status.TheVariants as status
 use Rattle.sky_recover.specs.Opening.{WhereBothTold}
 use Rattle.sky_world.specs.Opening.{IsRefusedAs}
 use Rattle.bluesky.specs.Run.{area_size, volume}
-use Rattle.bluesky.proofs.Beginning.{ran_failed}
-use Rattle.bluesky.proofs.Endings.{counts_on, ok_quiet}
+use Rattle.bluesky.proofs.Beginning.{opening_whole, ran_counted, ran_failed}
+use Rattle.bluesky.proofs.Endings.{counts_on, ok_not_err, ok_quiet}
 use Rattle.bluesky.proofs.Sites.{refused_unsound}
 use Rattle.bluesky.proofs.run.replay.Goals as goal
 
@@ -25,3 +25,17 @@ pub returns-in-Err-open-clause-sound : goal.returns-in-Err-open-clause-sound
 returns-in-Err-open-clause-sound g c =
     refused_unsound g.P.Storage c.args.site.now c.end_failed.result
     (subst (λ (v : Status). WhereBothTold g.P.Storage c.args.site.now (IsRefusedAs volume area_size v)) (sym c.end_failed.ensures.status) c.in-Err-open.ensures.refused)
+
+pub returns-in-Ok-clause-ran : goal.returns-in-Ok-clause-ran
+returns-in-Ok-clause-ran g c =
+    let written = g.K.Sink.written in
+    let faults = g.K.Sink.faults in
+    let begun = c.write_magic.new.sink in
+    let opened = c.open.new.sink in
+    let ran = c.replay_opened in
+    let still = ok_quiet c.write_magic.result c.in_default.field-0 (faults c.args.sink.now) (faults begun) c.in_default.is c.write_magic.ensures.cause in
+    let quiet = c.open.ensures.cause.quiet (ok_not_err c.open.result _ status.SinkFault c.in-Ok.is) in
+    let world = c.in-Ok.ensures.world in
+    ran_counted g.P.Storage c.args.site.now ran.new.site ran.result _ (written c.args.sink.now) (written ran.new.sink) (faults c.args.sink.now) (faults opened) (faults ran.new.sink) (quiet ∙ still)
+    (ran.ensures.ran c.args.site.now (written c.args.sink.now) world.0 world.1 world.2
+    (opening_whole world.0 (written c.args.sink.now) (written begun) (written opened) c.in_default.ensures.ok world.3))
