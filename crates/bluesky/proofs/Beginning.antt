@@ -1,31 +1,28 @@
 -- How a run begins, and how it ends before its first frame.
-use Rattle.std.proofs.Common.{◌≡◌, ◌≢◌, ◌⊎◌, inl, inr, ◌≤◌, ◌∙◌, sym, ap, ℕ, Bool, true, false, eqb, Option, Some, Result, Ok, Err, List, [], ◌∷◌, length, take, OnOk, OnErr, IfErr, IsErr, IsErrOf, refl, subst, arith}
+use Rattle.std.proofs.Common.{◌≡◌, ◌≢◌, ◌⊎◌, inl, inr, ◌≤◌, ◌∙◌, sym, ℕ, true, false, eqb, Option, Result, Ok, Err, List, [], length, take, OnOk, OnErr, IsErrOf, refl, subst, arith}
 use Rattle.std.specs.Result.{is_err}
 use Rattle.std.proofs.lemmas.List.{length-take}
-use Rattle.std.proofs.lemmas.Bool.{true≢false}
 use lib.Pointwise.{pointwise}
-use Rattle.sky_base.specs.declared.place.Lost.TheVariants as lost
 use Rattle.sky_base.specs.declared.status.Status.{Status}
 use Rattle.sky_base.specs.declared.status.Status.TheVariants as status
 use Rattle.sky_nfs.specs.History.{history_length}
 use Rattle.sky_outside.specs.CloudMap.{CloudMap}
 use Rattle.sky_outside.specs.Count.{Counts, Rose}
 use Rattle.sky_outside.specs.Moments.{NothingPending}
-use Rattle.sky_outside.specs.Told.{Had, HadPart, Given, GivenPart}
+use Rattle.sky_outside.specs.Told.{HadPart, Given, GivenPart}
 use Rattle.sky_outside.specs.declared.storage.Storage.{Ghosts}
 use Rattle.sky_outside.proofs.ToldLaws.{Given-then}
 use Rattle.sky_recover.specs.Opening.{Found, IsFoundOn, LeavesFound, WhereBothTold}
-use Rattle.sky_script.specs.Frame.{out_frame, out_frames, magic}
+use Rattle.sky_script.specs.Frame.{out_frame, magic}
 use Rattle.sky_script.specs.Beginning.{HadSome}
 use Rattle.sky_script.specs.declared.reading.FrameFault.{FrameFault}
 use Rattle.sky_script.specs.declared.reading.FrameFault.TheVariants as fault
-use Rattle.sky_sound.specs.Recovery.{IsSound}
 use Rattle.sky_world.specs.Meaning.{kept_of, opening, start}
 use Rattle.sky_world.specs.Opening.{IsOfOpening, IsRefusedAs}
 use Rattle.sky_world.specs.World.{tells}
 use Rattle.sky_world.proofs.FindingLaws.{both_told_from}
-use Rattle.bluesky.specs.Run.{SourceUse, SinkUse, other_magic, within_magic, GaveUpTo, GaveEnding, GaveUnopened, IsOfDamage, IsReplayed, SinkCounts, at_opening, EndsBy, Ran, RanOn, RanUnopened, area_size, session_bytes, volume}
-use Rattle.bluesky.specs.Stop.{status_of, NoMagic, IsShort, Opened}
+use Rattle.bluesky.specs.Run.{SourceUse, SinkUse, other_magic, within_magic, GaveEnding, GaveUnopened, IsOfDamage, SinkCounts, at_opening, EndsBy, Ran, RanOn, RanUnopened, area_size, session_bytes, volume}
+use Rattle.bluesky.specs.Stop.{status_of, NoMagic, IsShort}
 use Rattle.bluesky.proofs.Going.{nothing_handled, session-nothing}
 use Rattle.bluesky.proofs.Leaving.{opened_run}
 use Rattle.bluesky.proofs.Sites.{found_none}

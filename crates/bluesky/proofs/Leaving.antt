@@ -1,7 +1,7 @@
 -- What a crash leaves of a run.
 --   opened_run                    behind the opening, before any frame
 --   leaves_within, leaves_still   within a step, and behind the last one
-use Rattle.std.proofs.Common.{◌≡◌, ◌⊎◌, inl, inr, ⊎_elim, ℕ, Bool, Option, Some, List, [], refl, sym, ◌∙◌, subst}
+use Rattle.std.proofs.Common.{◌⊎◌, inl, inr, ⊎_elim, ℕ, Bool, Option, List, []}
 use Rattle.sky_nfs.specs.History.{history_length}
 use Rattle.sky_outside.specs.CloudMap.{CloudMap}
 use Rattle.sky_outside.specs.Moments.{LeavesOnly, MayLeaveNow, OfPair}
@@ -12,7 +12,7 @@ use Rattle.sky_script.specs.Frame.{InFrame}
 use Rattle.sky_sound.specs.Recovery.{FindsSame}
 use Rattle.sky_world.specs.Finding.{FindsPrefix, LeavesFinding}
 use Rattle.sky_world.specs.Meaning.{Kept, State, kept_of, start}
-use Rattle.sky_world.specs.World.{WorldView, tells}
+use Rattle.sky_world.specs.World.{WorldView}
 use Rattle.sky_world.proofs.FindingLaws.{both_told_at, both_told_from, leaves_as, stands_find}
 use Rattle.bluesky.specs.Run.{LeavesOfRun, LeftBetween, area_size, volume}
 use Rattle.bluesky.specs.Stop.{Opened}

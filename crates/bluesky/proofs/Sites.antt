@@ -4,7 +4,7 @@
 --   found_prefix                  what recovery finds is what the opening found
 --   refused_unsound               a sound site is refused for nothing that it has
 use Rattle.std.specs.Prelude.{is_some, ◌&&◌}
-use Rattle.std.proofs.Common.{◌≡◌, ◌+◌, ◌-◌, ◌≤◌, ℕ, Bool, true, false, Option, Some, None, Result, Ok, Err, List, [], length, take, refl, sym, ap, subst, ◌∙◌, arith}
+use Rattle.std.proofs.Common.{◌≡◌, ◌+◌, ◌-◌, ℕ, true, Option, Some, None, Ok, List, length, take, refl, sym, ap, subst, ◌∙◌, arith}
 use Rattle.std.proofs.Math.Seq.{take-length}
 use Rattle.sky_base.specs.declared.place.Lost.TheVariants as lost
 use Rattle.sky_base.specs.declared.status.Status.{Status}
@@ -13,7 +13,6 @@ use Rattle.sky_nfs.specs.History.{History, history_length, last_tree, tree_after
 use Rattle.sky_nfs.specs.declared.call.Change.{Change}
 use Rattle.sky_outside.specs.CloudMap.{CloudMap}
 use Rattle.sky_outside.specs.Moments.{LeavesOnly, NothingPending, OfPair}
-use Rattle.sky_outside.specs.Told.{WhereTold, BothTold}
 use Rattle.sky_outside.specs.declared.storage.Storage.{Ghosts}
 use Rattle.sky_outside.proofs.MomentLaws.{LeavesOnly-start, only_read}
 use Rattle.sky_outside.proofs.ToldLaws.{WhereTold-at}

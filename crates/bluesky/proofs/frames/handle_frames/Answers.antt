@@ -1,4 +1,4 @@
-use Rattle.std.proofs.Common.{◌≡◌, ◌∙◌, ℕ, refl, subst, arith}
+use Rattle.std.proofs.Common.{◌≡◌, ◌∙◌, refl, subst, arith}
 use Rattle.sky_base.specs.declared.status.Status.TheVariants as status
 use Rattle.sky_script.proofs.FrameLaws.{in_frame_bound}
 use Rattle.bluesky.specs.Run.{frame_limit, IsOfDamage}
