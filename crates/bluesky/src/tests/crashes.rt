@@ -273,7 +273,8 @@ fn begin_line(alloc: Global, known: &mut Known, line: Line) -> Result<u64, Fail>
 fn end_line(known: &mut Known, calls: u64, changes: u64, stable: u64) {
     known.calls = calls;
     known.stable = stable;
-    while known.changes.len() as u64 > changes {
+    let given_up = (known.changes.len() as u64).saturating_sub(changes);
+    for _ in 0..given_up {
         let _ = known.changes.pop();
         let _ = known.trees.pop();
     }
