@@ -8,35 +8,36 @@ use sky_nfs::{
 };
 use sky_xdr::NoRoom;
 use std::alloc::{AllocError, Global};
+use std::process::Abort;
 use std::test::Fail;
 
 // The bytes are those of another program's encoder, taken apart by the fields of RFC 1813.
-const OK: [u8; 4] = [0; 4];
+const OK: &[u8] = &[0; 4];
 
-const TRUE: [u8; 4] = [0, 0, 0, 1];
+const TRUE: &[u8] = &[0, 0, 0, 1];
 
-const FALSE: [u8; 4] = [0; 4];
+const FALSE: &[u8] = &[0; 4];
 
 // An object before and after a call, of which neither is told.
-const UNTOLD: [u8; 8] = [0; 8];
+const UNTOLD: &[u8] = &[0; 8];
 
-const HANDLE: [u8; 20] = [
+const HANDLE: &[u8] = &[
     0, 0, 0, 16, 0, 0, 0, 0, 0, 0, 0, 7, 17, 18, 19, 20, 21, 22, 23, 24,
 ];
 
-const ATTR: [u8; 84] = [
+const ATTR: &[u8] = &[
     0, 0, 0, 1, 0, 0, 1, 160, 0, 0, 0, 3, 0, 0, 3, 232, 0, 0, 0, 100, 1, 2, 3, 4, 5, 6, 7, 8, 1, 2,
     3, 4, 5, 6, 7, 8, 0, 0, 0, 0, 0, 0, 0, 0, 0, 0, 0, 0, 0, 0, 0, 7, 17, 18, 19, 20, 21, 22, 23,
     24, 0, 0, 0, 1, 0, 0, 0, 2, 0, 0, 0, 3, 0, 0, 0, 4, 0, 0, 0, 5, 0, 0, 0, 6,
 ];
 
-const TOLD: [u8; 88] = [
+const TOLD: &[u8] = &[
     0, 0, 0, 1, 0, 0, 0, 1, 0, 0, 1, 160, 0, 0, 0, 3, 0, 0, 3, 232, 0, 0, 0, 100, 1, 2, 3, 4, 5, 6,
     7, 8, 1, 2, 3, 4, 5, 6, 7, 8, 0, 0, 0, 0, 0, 0, 0, 0, 0, 0, 0, 0, 0, 0, 0, 7, 17, 18, 19, 20,
     21, 22, 23, 24, 0, 0, 0, 1, 0, 0, 0, 2, 0, 0, 0, 3, 0, 0, 0, 4, 0, 0, 0, 5, 0, 0, 0, 6,
 ];
 
-const CHANGED: [u8; 116] = [
+const CHANGED: &[u8] = &[
     0, 0, 0, 1, 33, 34, 35, 36, 37, 38, 39, 40, 0, 0, 0, 7, 0, 0, 0, 8, 0, 0, 0, 9, 0, 0, 0, 10, 0,
     0, 0, 1, 0, 0, 0, 1, 0, 0, 1, 160, 0, 0, 0, 3, 0, 0, 3, 232, 0, 0, 0, 100, 1, 2, 3, 4, 5, 6, 7,
     8, 1, 2, 3, 4, 5, 6, 7, 8, 0, 0, 0, 0, 0, 0, 0, 0, 0, 0, 0, 0, 0, 0, 0, 7, 17, 18, 19, 20, 21,
@@ -91,56 +92,59 @@ const LIMITS: PathConfOk = PathConfOk {
     case_preserving: true,
 };
 
-const NUMBERS_BYTES: [u8; 52] = [
+const NUMBERS_BYTES: &[u8] = &[
     0, 4, 0, 0, 0, 0, 0, 0, 0, 3, 255, 255, 255, 255, 255, 255, 0, 3, 255, 255, 255, 255, 255, 254,
     0, 0, 0, 0, 0, 16, 0, 0, 0, 0, 0, 0, 0, 15, 255, 255, 0, 0, 0, 0, 0, 15, 255, 254, 0, 0, 0, 0,
 ];
 
-const INFO_BYTES: [u8; 48] = [
+const INFO_BYTES: &[u8] = &[
     0, 1, 0, 0, 0, 1, 0, 0, 0, 0, 2, 0, 0, 1, 0, 0, 0, 1, 0, 0, 0, 0, 2, 0, 0, 1, 0, 0, 0, 0, 0, 0,
     64, 0, 0, 0, 0, 0, 0, 0, 0, 0, 0, 1, 0, 0, 0, 27,
 ];
 
-const LIMITS_BYTES: [u8; 24] = [
+const LIMITS_BYTES: &[u8] = &[
     0, 0, 125, 0, 0, 0, 0, 255, 0, 0, 0, 1, 0, 0, 0, 1, 0, 0, 0, 0, 0, 0, 0, 1,
 ];
 
-fn at(seconds: u32, nanos: u32) -> Moment {
-    Moment { seconds, nanos }
-}
+const ATTRIBUTES: Attr = Attr {
+    kind: Kind::Regular,
+    mode: 0o640,
+    nlink: 3,
+    uid: 1000,
+    gid: 100,
+    size: 0x0102_0304_0506_0708,
+    used: 0x0102_0304_0506_0708,
+    rdev: Device { major: 0, minor: 0 },
+    fsid: 7,
+    fileid: 0x1112_1314_1516_1718,
+    atime: Moment {
+        seconds: 1,
+        nanos: 2,
+    },
+    mtime: Moment {
+        seconds: 3,
+        nanos: 4,
+    },
+    ctime: Moment {
+        seconds: 5,
+        nanos: 6,
+    },
+};
 
-fn attributes() -> Attr {
-    Attr {
-        kind: Kind::Regular,
-        mode: 0o640,
-        nlink: 3,
-        uid: 1000,
-        gid: 100,
-        size: 0x0102_0304_0506_0708,
-        used: 0x0102_0304_0506_0708,
-        rdev: Device { major: 0, minor: 0 },
-        fsid: 7,
-        fileid: 0x1112_1314_1516_1718,
-        atime: at(1, 2),
-        mtime: at(3, 4),
-        ctime: at(5, 6),
-    }
-}
-
-fn changed() -> WccData {
-    WccData {
-        before: Some(WccAttr {
-            size: 0x2122_2324_2526_2728,
-            mtime: at(7, 8),
-            ctime: at(9, 10),
-        }),
-        after: Some(attributes()),
-    }
-}
-
-fn refused<R, A>(status: NfsStatus, attributes: A) -> Result<R, Refused<A>> {
-    Err(Refused { status, attributes })
-}
+const CHANGE: WccData = WccData {
+    before: Some(WccAttr {
+        size: 0x2122_2324_2526_2728,
+        mtime: Moment {
+            seconds: 7,
+            nanos: 8,
+        },
+        ctime: Moment {
+            seconds: 9,
+            nanos: 10,
+        },
+    }),
+    after: Some(ATTRIBUTES),
+};
 
 fn bytes(alloc: Global, text: &[u8]) -> Result<Bytes, AllocError> {
     Ok(Bytes::new(Vec::from_slice(alloc, text)?))
@@ -173,7 +177,7 @@ fn entries_plus(alloc: Global) -> Result<ListedEntriesPlus, AllocError> {
     let mut entries = Vec::new(alloc);
     entries.push(ListedEntryPlus {
         entry: first(alloc)?,
-        attributes: Some(attributes()),
+        attributes: Some(ATTRIBUTES),
         handle: HANDLE_OF_IT,
     })?;
     entries.push(ListedEntryPlus {
@@ -202,435 +206,576 @@ fn is_written_as(alloc: Global, answer: &Answer, parts: &[&[u8]]) -> Result<bool
     )
 }
 
-#[test]
-fn results_of_readings(rt: HostRuntime) -> Result<(), Fail> {
-    let alloc = rt.alloc();
-    let rows: [(Answer, &[&[u8]]); 24] = [
-        (Answer::Null, &[]),
-        (Answer::GetAttr(Ok(attributes())), &[&OK, &ATTR]),
-        (Answer::GetAttr(Err(NfsStatus::Stale)), &[&[0, 0, 0, 70]]),
-        (
-            Answer::Lookup(Ok(LookupOk {
-                handle: HANDLE_OF_IT,
-                object: Some(attributes()),
-                directory: Some(attributes()),
-            })),
-            &[&OK, &HANDLE, &TOLD, &TOLD],
-        ),
-        (
-            Answer::Lookup(Ok(LookupOk {
-                handle: HANDLE_OF_IT,
-                object: None,
-                directory: None,
-            })),
-            &[&OK, &HANDLE, &FALSE, &FALSE],
-        ),
-        (
-            Answer::Lookup(refused(NfsStatus::NoEnt, Some(attributes()))),
-            &[&[0, 0, 0, 2], &TOLD],
-        ),
-        (
-            Answer::Access(Ok(AccessOk {
-                object: Some(attributes()),
-                rights: 31,
-            })),
-            &[&OK, &TOLD, &[0, 0, 0, 31]],
-        ),
-        (
-            Answer::Access(Ok(AccessOk {
-                object: None,
-                rights: 31,
-            })),
-            &[&OK, &FALSE, &[0, 0, 0, 31]],
-        ),
-        (
-            Answer::Access(refused(NfsStatus::BadHandle, None)),
-            &[&[0, 0, 39, 17], &FALSE],
-        ),
-        (
-            Answer::ReadLink(Ok(ReadLinkOk {
-                link: Some(attributes()),
-                text: bytes(alloc, b"a/bc.")?,
-            })),
-            &[&OK, &TOLD, &[0, 0, 0, 5], b"a/bc.\0\0\0"],
-        ),
-        (
-            Answer::ReadLink(Ok(ReadLinkOk {
-                link: None,
-                text: bytes(alloc, b"a/bc.")?,
-            })),
-            &[&OK, &FALSE, &[0, 0, 0, 5], b"a/bc.\0\0\0"],
-        ),
-        (
-            Answer::ReadLink(refused(NfsStatus::Inval, Some(attributes()))),
-            &[&[0, 0, 0, 22], &TOLD],
-        ),
-        (
-            Answer::Read(Ok(ReadOk {
-                file: Some(attributes()),
-                eof: true,
-                data: bytes(alloc, b"data")?,
-            })),
-            &[&OK, &TOLD, &[0, 0, 0, 4], &TRUE, &[0, 0, 0, 4], b"data"],
-        ),
-        (
-            Answer::Read(Ok(ReadOk {
-                file: None,
-                eof: false,
-                data: bytes(alloc, b"data")?,
-            })),
-            &[&OK, &FALSE, &[0, 0, 0, 4], &FALSE, &[0, 0, 0, 4], b"data"],
-        ),
-        (
-            Answer::Read(refused(NfsStatus::Io, None)),
-            &[&[0, 0, 0, 5], &FALSE],
-        ),
-        (
-            Answer::FsStat(Ok(FsStatOk {
-                root: Some(attributes()),
-                ..NUMBERS
-            })),
-            &[&OK, &TOLD, &NUMBERS_BYTES],
-        ),
-        (
-            Answer::FsStat(Ok(FsStatOk {
-                root: None,
-                ..NUMBERS
-            })),
-            &[&OK, &FALSE, &NUMBERS_BYTES],
-        ),
-        (
-            Answer::FsStat(refused(NfsStatus::BadHandle, None)),
-            &[&[0, 0, 39, 17], &FALSE],
-        ),
-        (
-            Answer::FsInfo(Ok(FsInfoOk {
-                root: Some(attributes()),
-                ..INFO
-            })),
-            &[&OK, &TOLD, &INFO_BYTES],
-        ),
-        (
-            Answer::FsInfo(Ok(FsInfoOk { root: None, ..INFO })),
-            &[&OK, &FALSE, &INFO_BYTES],
-        ),
-        (
-            Answer::FsInfo(refused(NfsStatus::Stale, None)),
-            &[&[0, 0, 0, 70], &FALSE],
-        ),
-        (
-            Answer::PathConf(Ok(PathConfOk {
-                object: Some(attributes()),
-                ..LIMITS
-            })),
-            &[&OK, &TOLD, &LIMITS_BYTES],
-        ),
-        (
-            Answer::PathConf(Ok(PathConfOk {
-                object: None,
-                ..LIMITS
-            })),
-            &[&OK, &FALSE, &LIMITS_BYTES],
-        ),
-        (
-            Answer::PathConf(refused(NfsStatus::Stale, None)),
-            &[&[0, 0, 0, 70], &FALSE],
-        ),
-    ];
-    for (answer, parts) in &rows {
-        assert!(rt; is_written_as(alloc, answer, parts)?, "{answer:?}");
+// An answer that has no bytes or entries of its own: such an answer of four procedures is a refusal.
+#[derive(Clone, Copy)]
+enum Plain {
+    Null,
+    GetAttr(Result<Attr, NfsStatus>),
+    SetAttr(Result<WccData, Refused<WccData>>),
+    Lookup(Result<LookupOk, Refused<Option<Attr>>>),
+    Access(Result<AccessOk, Refused<Option<Attr>>>),
+    ReadLink(Refused<Option<Attr>>),
+    Read(Refused<Option<Attr>>),
+    Write(Result<WriteOk, Refused<WccData>>),
+    Create(Result<CreateOk, Refused<WccData>>),
+    Mkdir(Result<CreateOk, Refused<WccData>>),
+    Symlink(Result<CreateOk, Refused<WccData>>),
+    Mknod(Refused<WccData>),
+    Remove(Result<WccData, Refused<WccData>>),
+    Rmdir(Result<WccData, Refused<WccData>>),
+    Rename(Result<RenameResults, Refused<RenameResults>>),
+    Link(Result<LinkResults, Refused<LinkResults>>),
+    ReadDir(Refused<Option<Attr>>),
+    ReadDirPlus(Refused<Option<Attr>>),
+    FsStat(Result<FsStatOk, Refused<Option<Attr>>>),
+    FsInfo(Result<FsInfoOk, Refused<Option<Attr>>>),
+    PathConf(Result<PathConfOk, Refused<Option<Attr>>>),
+    Commit(Result<CommitOk, Refused<WccData>>),
+}
+
+fn answer_of(plain: Plain) -> Answer {
+    match plain {
+        Plain::Null => Answer::Null,
+        Plain::GetAttr(results) => Answer::GetAttr(results),
+        Plain::SetAttr(results) => Answer::SetAttr(results),
+        Plain::Lookup(results) => Answer::Lookup(results),
+        Plain::Access(results) => Answer::Access(results),
+        Plain::ReadLink(refused) => Answer::ReadLink(Err(refused)),
+        Plain::Read(refused) => Answer::Read(Err(refused)),
+        Plain::Write(results) => Answer::Write(results),
+        Plain::Create(results) => Answer::Create(results),
+        Plain::Mkdir(results) => Answer::Mkdir(results),
+        Plain::Symlink(results) => Answer::Symlink(results),
+        Plain::Mknod(results) => Answer::Mknod(results),
+        Plain::Remove(results) => Answer::Remove(results),
+        Plain::Rmdir(results) => Answer::Rmdir(results),
+        Plain::Rename(results) => Answer::Rename(results),
+        Plain::Link(results) => Answer::Link(results),
+        Plain::ReadDir(refused) => Answer::ReadDir(Err(refused)),
+        Plain::ReadDirPlus(refused) => Answer::ReadDirPlus(Err(refused)),
+        Plain::FsStat(results) => Answer::FsStat(results),
+        Plain::FsInfo(results) => Answer::FsInfo(results),
+        Plain::PathConf(results) => Answer::PathConf(results),
+        Plain::Commit(results) => Answer::Commit(results),
+    }
+}
+
+// An answer, of those that have no bytes or entries of their own; and the parts of its bytes.
+type Row = (Plain, &'static [&'static [u8]]);
+
+static READINGS: [Row; 22] = [
+    (Plain::Null, &[]),
+    (Plain::GetAttr(Ok(ATTRIBUTES)), &[OK, ATTR]),
+    (Plain::GetAttr(Err(NfsStatus::Stale)), &[&[0, 0, 0, 70]]),
+    (
+        Plain::Lookup(Ok(LookupOk {
+            handle: HANDLE_OF_IT,
+            object: Some(ATTRIBUTES),
+            directory: Some(ATTRIBUTES),
+        })),
+        &[OK, HANDLE, TOLD, TOLD],
+    ),
+    (
+        Plain::Lookup(Ok(LookupOk {
+            handle: HANDLE_OF_IT,
+            object: None,
+            directory: None,
+        })),
+        &[OK, HANDLE, FALSE, FALSE],
+    ),
+    (
+        Plain::Lookup(Err(Refused {
+            status: NfsStatus::NoEnt,
+            attributes: Some(ATTRIBUTES),
+        })),
+        &[&[0, 0, 0, 2], TOLD],
+    ),
+    (
+        Plain::Access(Ok(AccessOk {
+            object: Some(ATTRIBUTES),
+            rights: 31,
+        })),
+        &[OK, TOLD, &[0, 0, 0, 31]],
+    ),
+    (
+        Plain::Access(Ok(AccessOk {
+            object: None,
+            rights: 31,
+        })),
+        &[OK, FALSE, &[0, 0, 0, 31]],
+    ),
+    (
+        Plain::Access(Err(Refused {
+            status: NfsStatus::BadHandle,
+            attributes: None,
+        })),
+        &[&[0, 0, 39, 17], FALSE],
+    ),
+    (
+        Plain::ReadLink(Refused {
+            status: NfsStatus::Inval,
+            attributes: Some(ATTRIBUTES),
+        }),
+        &[&[0, 0, 0, 22], TOLD],
+    ),
+    (
+        Plain::Read(Refused {
+            status: NfsStatus::Io,
+            attributes: None,
+        }),
+        &[&[0, 0, 0, 5], FALSE],
+    ),
+    (
+        Plain::FsStat(Ok(FsStatOk {
+            root: Some(ATTRIBUTES),
+            ..NUMBERS
+        })),
+        &[OK, TOLD, NUMBERS_BYTES],
+    ),
+    (
+        Plain::FsStat(Ok(FsStatOk {
+            root: None,
+            ..NUMBERS
+        })),
+        &[OK, FALSE, NUMBERS_BYTES],
+    ),
+    (
+        Plain::FsStat(Err(Refused {
+            status: NfsStatus::BadHandle,
+            attributes: None,
+        })),
+        &[&[0, 0, 39, 17], FALSE],
+    ),
+    (
+        Plain::FsInfo(Ok(FsInfoOk {
+            root: Some(ATTRIBUTES),
+            ..INFO
+        })),
+        &[OK, TOLD, INFO_BYTES],
+    ),
+    (
+        Plain::FsInfo(Ok(FsInfoOk { root: None, ..INFO })),
+        &[OK, FALSE, INFO_BYTES],
+    ),
+    (
+        Plain::FsInfo(Err(Refused {
+            status: NfsStatus::Stale,
+            attributes: None,
+        })),
+        &[&[0, 0, 0, 70], FALSE],
+    ),
+    (
+        Plain::PathConf(Ok(PathConfOk {
+            object: Some(ATTRIBUTES),
+            ..LIMITS
+        })),
+        &[OK, TOLD, LIMITS_BYTES],
+    ),
+    (
+        Plain::PathConf(Ok(PathConfOk {
+            object: None,
+            ..LIMITS
+        })),
+        &[OK, FALSE, LIMITS_BYTES],
+    ),
+    (
+        Plain::PathConf(Err(Refused {
+            status: NfsStatus::Stale,
+            attributes: None,
+        })),
+        &[&[0, 0, 0, 70], FALSE],
+    ),
+    (
+        Plain::ReadDir(Refused {
+            status: NfsStatus::BadCookie,
+            attributes: Some(ATTRIBUTES),
+        }),
+        &[&[0, 0, 39, 19], TOLD],
+    ),
+    (
+        Plain::ReadDirPlus(Refused {
+            status: NfsStatus::TooSmall,
+            attributes: None,
+        }),
+        &[&[0, 0, 39, 21], FALSE],
+    ),
+];
+
+static CHANGES: [Row; 32] = [
+    (Plain::SetAttr(Ok(CHANGE)), &[OK, CHANGED]),
+    (Plain::SetAttr(Ok(UNKNOWN)), &[OK, UNTOLD]),
+    (
+        Plain::SetAttr(Err(Refused {
+            status: NfsStatus::NotSync,
+            attributes: CHANGE,
+        })),
+        &[&[0, 0, 39, 18], CHANGED],
+    ),
+    (Plain::Remove(Ok(CHANGE)), &[OK, CHANGED]),
+    (Plain::Remove(Ok(UNKNOWN)), &[OK, UNTOLD]),
+    (
+        Plain::Remove(Err(Refused {
+            status: NfsStatus::NoEnt,
+            attributes: CHANGE,
+        })),
+        &[&[0, 0, 0, 2], CHANGED],
+    ),
+    (Plain::Rmdir(Ok(CHANGE)), &[OK, CHANGED]),
+    (Plain::Rmdir(Ok(UNKNOWN)), &[OK, UNTOLD]),
+    (
+        Plain::Rmdir(Err(Refused {
+            status: NfsStatus::NotEmpty,
+            attributes: CHANGE,
+        })),
+        &[&[0, 0, 0, 66], CHANGED],
+    ),
+    (
+        Plain::Write(Ok(WriteOk {
+            file: CHANGE,
+            count: 65536,
+            committed: true,
+            verifier: 9,
+        })),
+        &[
+            OK,
+            CHANGED,
+            &[0, 1, 0, 0],
+            &[0, 0, 0, 2],
+            &[0, 0, 0, 0, 0, 0, 0, 9],
+        ],
+    ),
+    (
+        Plain::Write(Ok(WriteOk {
+            file: UNKNOWN,
+            count: 65536,
+            committed: false,
+            verifier: 9,
+        })),
+        &[
+            OK,
+            UNTOLD,
+            &[0, 1, 0, 0],
+            &[0, 0, 0, 0],
+            &[0, 0, 0, 0, 0, 0, 0, 9],
+        ],
+    ),
+    (
+        Plain::Write(Err(Refused {
+            status: NfsStatus::FBig,
+            attributes: CHANGE,
+        })),
+        &[&[0, 0, 0, 27], CHANGED],
+    ),
+    (
+        Plain::Create(Ok(CreateOk {
+            handle: HANDLE_OF_IT,
+            object: Some(ATTRIBUTES),
+            directory: CHANGE,
+        })),
+        &[OK, TRUE, HANDLE, TOLD, CHANGED],
+    ),
+    (
+        Plain::Create(Ok(CreateOk {
+            handle: HANDLE_OF_IT,
+            object: None,
+            directory: UNKNOWN,
+        })),
+        &[OK, TRUE, HANDLE, FALSE, UNTOLD],
+    ),
+    (
+        Plain::Create(Err(Refused {
+            status: NfsStatus::Exist,
+            attributes: CHANGE,
+        })),
+        &[&[0, 0, 0, 17], CHANGED],
+    ),
+    (
+        Plain::Mkdir(Ok(CreateOk {
+            handle: HANDLE_OF_IT,
+            object: Some(ATTRIBUTES),
+            directory: CHANGE,
+        })),
+        &[OK, TRUE, HANDLE, TOLD, CHANGED],
+    ),
+    (
+        Plain::Mkdir(Ok(CreateOk {
+            handle: HANDLE_OF_IT,
+            object: None,
+            directory: UNKNOWN,
+        })),
+        &[OK, TRUE, HANDLE, FALSE, UNTOLD],
+    ),
+    (
+        Plain::Mkdir(Err(Refused {
+            status: NfsStatus::NoSpc,
+            attributes: CHANGE,
+        })),
+        &[&[0, 0, 0, 28], CHANGED],
+    ),
+    (
+        Plain::Symlink(Ok(CreateOk {
+            handle: HANDLE_OF_IT,
+            object: Some(ATTRIBUTES),
+            directory: CHANGE,
+        })),
+        &[OK, TRUE, HANDLE, TOLD, CHANGED],
+    ),
+    (
+        Plain::Symlink(Ok(CreateOk {
+            handle: HANDLE_OF_IT,
+            object: None,
+            directory: UNKNOWN,
+        })),
+        &[OK, TRUE, HANDLE, FALSE, UNTOLD],
+    ),
+    (
+        Plain::Symlink(Err(Refused {
+            status: NfsStatus::NameTooLong,
+            attributes: CHANGE,
+        })),
+        &[&[0, 0, 0, 63], CHANGED],
+    ),
+    (
+        Plain::Mknod(Refused {
+            status: NfsStatus::NotSupp,
+            attributes: CHANGE,
+        }),
+        &[&[0, 0, 39, 20], CHANGED],
+    ),
+    (
+        Plain::Mknod(Refused {
+            status: NfsStatus::NotSupp,
+            attributes: UNKNOWN,
+        }),
+        &[&[0, 0, 39, 20], UNTOLD],
+    ),
+    (
+        Plain::Rename(Ok(RenameResults {
+            from: CHANGE,
+            to: UNKNOWN,
+        })),
+        &[OK, CHANGED, UNTOLD],
+    ),
+    (
+        Plain::Rename(Ok(RenameResults {
+            from: UNKNOWN,
+            to: CHANGE,
+        })),
+        &[OK, UNTOLD, CHANGED],
+    ),
+    (
+        Plain::Rename(Err(Refused {
+            status: NfsStatus::IsDir,
+            attributes: RenameResults {
+                from: CHANGE,
+                to: UNKNOWN,
+            },
+        })),
+        &[&[0, 0, 0, 21], CHANGED, UNTOLD],
+    ),
+    (
+        Plain::Link(Ok(LinkResults {
+            file: Some(ATTRIBUTES),
+            directory: CHANGE,
+        })),
+        &[OK, TOLD, CHANGED],
+    ),
+    (
+        Plain::Link(Ok(LinkResults {
+            file: None,
+            directory: UNKNOWN,
+        })),
+        &[OK, FALSE, UNTOLD],
+    ),
+    (
+        Plain::Link(Err(Refused {
+            status: NfsStatus::MLink,
+            attributes: LinkResults {
+                file: Some(ATTRIBUTES),
+                directory: UNKNOWN,
+            },
+        })),
+        &[&[0, 0, 0, 31], TOLD, UNTOLD],
+    ),
+    (
+        Plain::Commit(Ok(CommitOk {
+            file: CHANGE,
+            verifier: 9,
+        })),
+        &[OK, CHANGED, &[0, 0, 0, 0, 0, 0, 0, 9]],
+    ),
+    (
+        Plain::Commit(Ok(CommitOk {
+            file: UNKNOWN,
+            verifier: 9,
+        })),
+        &[OK, UNTOLD, &[0, 0, 0, 0, 0, 0, 0, 9]],
+    ),
+    (
+        Plain::Commit(Err(Refused {
+            status: NfsStatus::Jukebox,
+            attributes: UNKNOWN,
+        })),
+        &[&[0, 0, 39, 24], UNTOLD],
+    ),
+];
+
+// That an answer is written as these bytes.
+fn check_answer(
+    rt: &impl Abort,
+    alloc: Global,
+    answer: &Answer,
+    parts: &[&[u8]],
+) -> Result<(), Fail> {
+    assert!(rt; is_written_as(alloc, answer, parts)?, "{answer:?}");
+    Ok(())
+}
+
+fn check_rows(rt: &impl Abort, alloc: Global, rows: &[Row]) -> Result<(), Fail> {
+    for (answer, parts) in rows {
+        check_answer(rt, alloc, &answer_of(*answer), parts)?;
     }
     Ok(())
 }
 
 #[test]
+fn results_of_readings(rt: HostRuntime) -> Result<(), Fail> {
+    check_rows(&rt, rt.alloc(), &READINGS)
+}
+
+#[test]
 fn results_of_changes(rt: HostRuntime) -> Result<(), Fail> {
+    check_rows(&rt, rt.alloc(), &CHANGES)
+}
+
+// The attributes of a link and of a file, or none; and the parts of the answers of READLINK and READ.
+type Texts = (
+    Option<Attr>,
+    &'static [&'static [u8]],
+    &'static [&'static [u8]],
+);
+
+static TEXTS: [Texts; 2] = [
+    (
+        Some(ATTRIBUTES),
+        &[OK, TOLD, &[0, 0, 0, 5], b"a/bc.\0\0\0"],
+        &[OK, TOLD, &[0, 0, 0, 4], TRUE, &[0, 0, 0, 4], b"data"],
+    ),
+    (
+        None,
+        &[OK, FALSE, &[0, 0, 0, 5], b"a/bc.\0\0\0"],
+        &[OK, FALSE, &[0, 0, 0, 4], FALSE, &[0, 0, 0, 4], b"data"],
+    ),
+];
+
+fn link_read(alloc: Global, link: Option<Attr>) -> Result<Answer, AllocError> {
+    let text = bytes(alloc, b"a/bc.")?;
+    Ok(Answer::ReadLink(Ok(ReadLinkOk { link, text })))
+}
+
+fn file_read(alloc: Global, file: Option<Attr>) -> Result<Answer, AllocError> {
+    let data = bytes(alloc, b"data")?;
+    let eof = file.is_some();
+    Ok(Answer::Read(Ok(ReadOk { file, eof, data })))
+}
+
+#[test]
+fn texts_and_data(rt: HostRuntime) -> Result<(), Fail> {
     let alloc = rt.alloc();
-    let rows: [(Answer, &[&[u8]]); 32] = [
-        (Answer::SetAttr(Ok(changed())), &[&OK, &CHANGED]),
-        (Answer::SetAttr(Ok(UNKNOWN)), &[&OK, &UNTOLD]),
-        (
-            Answer::SetAttr(refused(NfsStatus::NotSync, changed())),
-            &[&[0, 0, 39, 18], &CHANGED],
-        ),
-        (Answer::Remove(Ok(changed())), &[&OK, &CHANGED]),
-        (Answer::Remove(Ok(UNKNOWN)), &[&OK, &UNTOLD]),
-        (
-            Answer::Remove(refused(NfsStatus::NoEnt, changed())),
-            &[&[0, 0, 0, 2], &CHANGED],
-        ),
-        (Answer::Rmdir(Ok(changed())), &[&OK, &CHANGED]),
-        (Answer::Rmdir(Ok(UNKNOWN)), &[&OK, &UNTOLD]),
-        (
-            Answer::Rmdir(refused(NfsStatus::NotEmpty, changed())),
-            &[&[0, 0, 0, 66], &CHANGED],
-        ),
-        (
-            Answer::Write(Ok(WriteOk {
-                file: changed(),
-                count: 65536,
-                committed: true,
-                verifier: 9,
-            })),
-            &[
-                &OK,
-                &CHANGED,
-                &[0, 1, 0, 0],
-                &[0, 0, 0, 2],
-                &[0, 0, 0, 0, 0, 0, 0, 9],
-            ],
-        ),
-        (
-            Answer::Write(Ok(WriteOk {
-                file: UNKNOWN,
-                count: 65536,
-                committed: false,
-                verifier: 9,
-            })),
-            &[
-                &OK,
-                &UNTOLD,
-                &[0, 1, 0, 0],
-                &[0, 0, 0, 0],
-                &[0, 0, 0, 0, 0, 0, 0, 9],
-            ],
-        ),
-        (
-            Answer::Write(refused(NfsStatus::FBig, changed())),
-            &[&[0, 0, 0, 27], &CHANGED],
-        ),
-        (
-            Answer::Create(Ok(CreateOk {
-                handle: HANDLE_OF_IT,
-                object: Some(attributes()),
-                directory: changed(),
-            })),
-            &[&OK, &TRUE, &HANDLE, &TOLD, &CHANGED],
-        ),
-        (
-            Answer::Create(Ok(CreateOk {
-                handle: HANDLE_OF_IT,
-                object: None,
-                directory: UNKNOWN,
-            })),
-            &[&OK, &TRUE, &HANDLE, &FALSE, &UNTOLD],
-        ),
-        (
-            Answer::Create(refused(NfsStatus::Exist, changed())),
-            &[&[0, 0, 0, 17], &CHANGED],
-        ),
-        (
-            Answer::Mkdir(Ok(CreateOk {
-                handle: HANDLE_OF_IT,
-                object: Some(attributes()),
-                directory: changed(),
-            })),
-            &[&OK, &TRUE, &HANDLE, &TOLD, &CHANGED],
-        ),
-        (
-            Answer::Mkdir(Ok(CreateOk {
-                handle: HANDLE_OF_IT,
-                object: None,
-                directory: UNKNOWN,
-            })),
-            &[&OK, &TRUE, &HANDLE, &FALSE, &UNTOLD],
-        ),
-        (
-            Answer::Mkdir(refused(NfsStatus::NoSpc, changed())),
-            &[&[0, 0, 0, 28], &CHANGED],
-        ),
-        (
-            Answer::Symlink(Ok(CreateOk {
-                handle: HANDLE_OF_IT,
-                object: Some(attributes()),
-                directory: changed(),
-            })),
-            &[&OK, &TRUE, &HANDLE, &TOLD, &CHANGED],
-        ),
-        (
-            Answer::Symlink(Ok(CreateOk {
-                handle: HANDLE_OF_IT,
-                object: None,
-                directory: UNKNOWN,
-            })),
-            &[&OK, &TRUE, &HANDLE, &FALSE, &UNTOLD],
-        ),
-        (
-            Answer::Symlink(refused(NfsStatus::NameTooLong, changed())),
-            &[&[0, 0, 0, 63], &CHANGED],
-        ),
-        (
-            Answer::Mknod(Refused {
-                status: NfsStatus::NotSupp,
-                attributes: changed(),
-            }),
-            &[&[0, 0, 39, 20], &CHANGED],
-        ),
-        (
-            Answer::Mknod(Refused {
-                status: NfsStatus::NotSupp,
-                attributes: UNKNOWN,
-            }),
-            &[&[0, 0, 39, 20], &UNTOLD],
-        ),
-        (
-            Answer::Rename(Ok(RenameResults {
-                from: changed(),
-                to: UNKNOWN,
-            })),
-            &[&OK, &CHANGED, &UNTOLD],
-        ),
-        (
-            Answer::Rename(Ok(RenameResults {
-                from: UNKNOWN,
-                to: changed(),
-            })),
-            &[&OK, &UNTOLD, &CHANGED],
-        ),
-        (
-            Answer::Rename(refused(
-                NfsStatus::IsDir,
-                RenameResults {
-                    from: changed(),
-                    to: UNKNOWN,
-                },
-            )),
-            &[&[0, 0, 0, 21], &CHANGED, &UNTOLD],
-        ),
-        (
-            Answer::Link(Ok(LinkResults {
-                file: Some(attributes()),
-                directory: changed(),
-            })),
-            &[&OK, &TOLD, &CHANGED],
-        ),
-        (
-            Answer::Link(Ok(LinkResults {
-                file: None,
-                directory: UNKNOWN,
-            })),
-            &[&OK, &FALSE, &UNTOLD],
-        ),
-        (
-            Answer::Link(refused(
-                NfsStatus::MLink,
-                LinkResults {
-                    file: Some(attributes()),
-                    directory: UNKNOWN,
-                },
-            )),
-            &[&[0, 0, 0, 31], &TOLD, &UNTOLD],
-        ),
-        (
-            Answer::Commit(Ok(CommitOk {
-                file: changed(),
-                verifier: 9,
-            })),
-            &[&OK, &CHANGED, &[0, 0, 0, 0, 0, 0, 0, 9]],
-        ),
-        (
-            Answer::Commit(Ok(CommitOk {
-                file: UNKNOWN,
-                verifier: 9,
-            })),
-            &[&OK, &UNTOLD, &[0, 0, 0, 0, 0, 0, 0, 9]],
-        ),
-        (
-            Answer::Commit(refused(NfsStatus::Jukebox, UNKNOWN)),
-            &[&[0, 0, 39, 24], &UNTOLD],
-        ),
-    ];
-    for (answer, parts) in &rows {
-        assert!(rt; is_written_as(alloc, answer, parts)?, "{answer:?}");
+    for (told, link, file) in &TEXTS {
+        check_answer(&rt, alloc, &link_read(alloc, *told)?, link)?;
+        check_answer(&rt, alloc, &file_read(alloc, *told)?, file)?;
     }
     Ok(())
+}
+
+// A directory of two entries whose attributes are told, and one of none: the parts of the answers of READDIR and READDIRPLUS. The first
+// page of the one and the second of the other end their directory.
+static PAGES: [Texts; 2] = [
+    (
+        Some(ATTRIBUTES),
+        &[
+            OK,
+            TOLD,
+            &[0, 0, 0, 0, 0, 0, 0, 0],
+            TRUE,
+            &[0, 0, 0, 0, 0, 0, 0, 5],
+            &[0, 0, 0, 1],
+            b".\0\0\0",
+            &[0, 0, 0, 0, 0, 0, 0, 1],
+            TRUE,
+            &[1, 2, 3, 4, 5, 6, 7, 8],
+            &[0, 0, 0, 5],
+            b"abcde\0\0\0",
+            &[0, 0, 0, 0, 0, 0, 0, 3],
+            FALSE,
+            TRUE,
+        ],
+        &[
+            OK,
+            TOLD,
+            &[0, 0, 0, 0, 0, 0, 0, 0],
+            TRUE,
+            &[0, 0, 0, 0, 0, 0, 0, 5],
+            &[0, 0, 0, 1],
+            b".\0\0\0",
+            &[0, 0, 0, 0, 0, 0, 0, 1],
+            TOLD,
+            TRUE,
+            HANDLE,
+            TRUE,
+            &[1, 2, 3, 4, 5, 6, 7, 8],
+            &[0, 0, 0, 5],
+            b"abcde\0\0\0",
+            &[0, 0, 0, 0, 0, 0, 0, 3],
+            FALSE,
+            TRUE,
+            HANDLE,
+            FALSE,
+            FALSE,
+        ],
+    ),
+    (
+        None,
+        &[OK, FALSE, &[0, 0, 0, 0, 0, 0, 0, 0], FALSE, FALSE],
+        &[OK, FALSE, &[0, 0, 0, 0, 0, 0, 0, 0], FALSE, TRUE],
+    ),
+];
+
+fn page(alloc: Global, directory: Option<Attr>) -> Result<Answer, AllocError> {
+    let eof = directory.is_some();
+    let entries = if eof {
+        entries(alloc)?
+    } else {
+        ListedEntries::new(Vec::new(alloc))
+    };
+    Ok(Answer::ReadDir(Ok(ReadDirOk {
+        directory,
+        entries,
+        eof,
+    })))
+}
+
+fn page_plus(alloc: Global, directory: Option<Attr>) -> Result<Answer, AllocError> {
+    let eof = directory.is_none();
+    let entries = if eof {
+        ListedEntriesPlus::new(Vec::new(alloc))
+    } else {
+        entries_plus(alloc)?
+    };
+    Ok(Answer::ReadDirPlus(Ok(ReadDirPlusOk {
+        directory,
+        entries,
+        eof,
+    })))
 }
 
 #[test]
 fn directory_pages(rt: HostRuntime) -> Result<(), Fail> {
     let alloc = rt.alloc();
-    let rows: [(Answer, &[&[u8]]); 6] = [
-        (
-            Answer::ReadDir(Ok(ReadDirOk {
-                directory: Some(attributes()),
-                entries: entries(alloc)?,
-                eof: true,
-            })),
-            &[
-                &OK,
-                &TOLD,
-                &[0, 0, 0, 0, 0, 0, 0, 0],
-                &TRUE,
-                &[0, 0, 0, 0, 0, 0, 0, 5],
-                &[0, 0, 0, 1],
-                b".\0\0\0",
-                &[0, 0, 0, 0, 0, 0, 0, 1],
-                &TRUE,
-                &[1, 2, 3, 4, 5, 6, 7, 8],
-                &[0, 0, 0, 5],
-                b"abcde\0\0\0",
-                &[0, 0, 0, 0, 0, 0, 0, 3],
-                &FALSE,
-                &TRUE,
-            ],
-        ),
-        (
-            Answer::ReadDir(Ok(ReadDirOk {
-                directory: None,
-                entries: ListedEntries::new(Vec::new(alloc)),
-                eof: false,
-            })),
-            &[&OK, &FALSE, &[0, 0, 0, 0, 0, 0, 0, 0], &FALSE, &FALSE],
-        ),
-        (
-            Answer::ReadDir(refused(NfsStatus::BadCookie, Some(attributes()))),
-            &[&[0, 0, 39, 19], &TOLD],
-        ),
-        (
-            Answer::ReadDirPlus(Ok(ReadDirPlusOk {
-                directory: Some(attributes()),
-                entries: entries_plus(alloc)?,
-                eof: false,
-            })),
-            &[
-                &OK,
-                &TOLD,
-                &[0, 0, 0, 0, 0, 0, 0, 0],
-                &TRUE,
-                &[0, 0, 0, 0, 0, 0, 0, 5],
-                &[0, 0, 0, 1],
-                b".\0\0\0",
-                &[0, 0, 0, 0, 0, 0, 0, 1],
-                &TOLD,
-                &TRUE,
-                &HANDLE,
-                &TRUE,
-                &[1, 2, 3, 4, 5, 6, 7, 8],
-                &[0, 0, 0, 5],
-                b"abcde\0\0\0",
-                &[0, 0, 0, 0, 0, 0, 0, 3],
-                &FALSE,
-                &TRUE,
-                &HANDLE,
-                &FALSE,
-                &FALSE,
-            ],
-        ),
-        (
-            Answer::ReadDirPlus(Ok(ReadDirPlusOk {
-                directory: None,
-                entries: ListedEntriesPlus::new(Vec::new(alloc)),
-                eof: true,
-            })),
-            &[&OK, &FALSE, &[0, 0, 0, 0, 0, 0, 0, 0], &FALSE, &TRUE],
-        ),
-        (
-            Answer::ReadDirPlus(refused(NfsStatus::TooSmall, None)),
-            &[&[0, 0, 39, 21], &FALSE],
-        ),
-    ];
-    for (answer, parts) in &rows {
-        assert!(rt; is_written_as(alloc, answer, parts)?, "{answer:?}");
+    for (told, plain, plus) in &PAGES {
+        check_answer(&rt, alloc, &page(alloc, *told)?, plain)?;
+        check_answer(&rt, alloc, &page_plus(alloc, *told)?, plus)?;
     }
     Ok(())
 }
@@ -646,7 +791,7 @@ fn each_attribute_has_its_place(rt: HostRuntime) -> Result<(), Fail> {
             major: 13,
             minor: 14,
         },
-        ..attributes()
+        ..ATTRIBUTES
     };
     let parts: [&[u8]; 4] = [
         &[0, 0, 0, 0, 0, 0, 0, 5],
@@ -662,7 +807,7 @@ fn each_attribute_has_its_place(rt: HostRuntime) -> Result<(), Fail> {
 
 #[test]
 fn nothing_is_written_where_there_is_no_room(rt: HostRuntime) {
-    let answer = Answer::SetAttr(Ok(changed()));
+    let answer = Answer::SetAttr(Ok(CHANGE));
     assert!(rt; is_encodable(&answer));
     for room in 0..120 {
         let mut buf = [0xaa; 120];
