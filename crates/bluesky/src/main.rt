@@ -28,9 +28,6 @@ use std::rt::Env;
 use std::{env, fmt, io};
 use words::paths_of;
 
-#[cfg(test)]
-mod tests;
-
 /// The bytes of the journal's disk: two areas, each of 2^26 bytes, the size where the settings say nothing.
 const DISK_BYTES: u64 = 2 << 26;
 

@@ -92,6 +92,3 @@ fn grants(digit: u32, want: Want) -> bool
         Want::Execute => digit & 1 != 0,
     }
 }
-
-#[cfg(test)]
-mod tests;

@@ -23,6 +23,3 @@ pub use length::args_length;
 pub use procedure::procedure_number;
 pub use reading::read_args;
 pub use writing::{put_args, write_args};
-
-#[cfg(test)]
-mod tests;

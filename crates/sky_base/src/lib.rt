@@ -28,6 +28,3 @@ pub use object::{Dir, SegName};
 pub use paths::{Paths, Text};
 pub use place::{Damage, ItemId, Link, Location, Lost};
 pub use status::Status;
-
-#[cfg(test)]
-mod tests;

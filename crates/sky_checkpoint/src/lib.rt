@@ -8,6 +8,3 @@ mod listing;
 pub use check::{Check, PageLinks};
 pub use laws::checkpoints_come_back;
 pub use listing::{complete_run, last_check, next_run};
-
-#[cfg(test)]
-mod tests;

@@ -13,6 +13,3 @@ pub use entries::Entries;
 pub use fault::DirFault;
 pub use laws::{limits_are_as_defined, no_cookie_is_used_again};
 pub use page::{Listed, PageIter};
-
-#[cfg(test)]
-mod tests;

@@ -8,6 +8,3 @@ mod page;
 pub use laws::{limits_are_as_defined, pages_come_back, pages_keep_their_links};
 pub use links::link_at;
 pub use page::{Page, page_of};
-
-#[cfg(test)]
-mod tests;

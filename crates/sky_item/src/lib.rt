@@ -22,6 +22,3 @@ pub use laws::{copies_are_the_same_item, item_at_decides, items_have_one_reading
 pub use length::item_length;
 pub use lists::{BlockLinks, DirRows, Fileids, ItemBytes, NumberedLink, NumberedLinks};
 pub use read::read_item;
-
-#[cfg(test)]
-mod tests;

@@ -9,6 +9,3 @@ mod results;
 pub use args::{ArgFault, MountCall, read_mount};
 pub use laws::{arguments_are_read, results_are_told_apart};
 pub use results::write_mount;
-
-#[cfg(test)]
-mod tests;

@@ -22,6 +22,3 @@ pub use laws::{
     links_are_counted, refusals_and_readings_leave_the_tree, valid_trees_stay_valid,
 };
 pub use status::NfsStatus;
-
-#[cfg(test)]
-mod tests;

@@ -11,6 +11,3 @@ mod nodes;
 pub use file_bytes::FileBytes;
 pub use node::{Content, Node};
 pub use nodes::Nodes;
-
-#[cfg(test)]
-mod tests;

@@ -15,6 +15,3 @@ mod stdio;
 
 pub use file_site::FileSite;
 pub use stdio::{StdinSource, StdoutSink};
-
-#[cfg(test)]
-mod tests;

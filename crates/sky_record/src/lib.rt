@@ -13,6 +13,3 @@ pub use stream::assemble;
 
 /// The most bytes that a record may have, without its headers: 131,072.
 pub const RECORD_LIMIT: usize = 131_072;
-
-#[cfg(test)]
-mod tests;

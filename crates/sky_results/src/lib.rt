@@ -15,6 +15,3 @@ mod wcc;
 pub use answer::{answer_length, is_encodable, write_answer};
 pub use laws::{answers_are_bounded, one_reading};
 pub use ranges::answers_are_in_range;
-
-#[cfg(test)]
-mod tests;

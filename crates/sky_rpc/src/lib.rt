@@ -10,6 +10,3 @@ pub use call::{RpcCall, RpcRefusal, read_call};
 pub use cred::take_gids;
 pub use laws::{calls_are_read, replies_are_told_apart};
 pub use reply::{RESULTS_AT, ReplyBody, put_words, write_reply};
-
-#[cfg(test)]
-mod tests;

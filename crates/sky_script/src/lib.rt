@@ -17,6 +17,3 @@ pub const SESSION_COUNT: u32 = 256;
 
 /// The most bytes that a frame's payload has: 2^20.
 pub const PAYLOAD_LIMIT: u32 = 1_048_576;
-
-#[cfg(test)]
-mod tests;

@@ -12,6 +12,3 @@ pub use builder::Builder;
 pub use bytes::SegmentBytes;
 pub use laws::{drafts_have_room, empty_objects, object_at_decides, objects_have_one_reading};
 pub use read::read_segment;
-
-#[cfg(test)]
-mod tests;

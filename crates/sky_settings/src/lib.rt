@@ -4,6 +4,3 @@
 mod settings;
 
 pub use settings::{Fields, Settings};
-
-#[cfg(test)]
-mod tests;

@@ -36,6 +36,3 @@ mod tree;
 mod write;
 
 pub use tree::Tree;
-
-#[cfg(test)]
-mod tests;

@@ -9,6 +9,3 @@ mod usage;
 pub use iter::UsageIter;
 pub use laws::usage_is_a_sum;
 pub use usage::Usage;
-
-#[cfg(test)]
-mod tests;

@@ -15,6 +15,3 @@ pub use laws::{
     each_recording_has_one_meaning, the_mark_does_not_fall, there_is_one_history,
 };
 pub use world::World;
-
-#[cfg(test)]
-mod tests;

@@ -13,6 +13,3 @@ pub use laws::{only_encoding, read_again};
 pub use padding::opaque_length;
 pub use reader::Reader;
 pub use writer::Writer;
-
-#[cfg(test)]
-mod tests;
