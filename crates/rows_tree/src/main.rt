@@ -2,7 +2,8 @@
 //! and is answered in a line that begins with its name. A line that begins with `#`, or is empty, is passed over.
 //!
 //! A row is a name, a word, and the word's arguments. Numbers are decimal, but for a mode, which is octal. Bytes are in
-//! hexadecimal, `-` for none; parts of them are joined by `+`, and of `46x239` the byte 46 comes 239 times.
+//! hexadecimal, `-` for none; parts of them are joined by `+`, and of `46x239` the byte 46 comes 239 times. In what is
+//! printed a long run of a byte stands as `(46x239)`.
 #![tactic(auto)]
 
 mod access;

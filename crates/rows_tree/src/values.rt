@@ -112,6 +112,7 @@ fn entries_plus(alloc: Global, args: &[&str]) -> Result<String, Unread> {
     let mut text = String::from_str(alloc, "lists")?;
     for entry in page.as_slice() {
         put_entry(&mut text, alloc, &entry.entry)?;
+        write!(text, ":{}:{}", entry.handle.volume, entry.handle.fileid)?;
     }
     let count = page.into_vec().len();
     Ok(format!(in alloc; "{text} gives back {count}")?)

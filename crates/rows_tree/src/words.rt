@@ -3,6 +3,7 @@
 use crate::unread::Unread;
 use sky_base::{Cred, Gids, Moment};
 use std::alloc::{AllocError, Global};
+use std::fmt::Write;
 
 /// The words of a line.
 pub fn of_line<'a>(alloc: Global, line: &'a str) -> Result<Vec<&'a str>, AllocError> {
@@ -61,13 +62,38 @@ pub fn bytes(alloc: Global, word: &str) -> Result<Vec<u8>, Unread> {
     Ok(all)
 }
 
-/// Bytes in hexadecimal, `-` for none.
+/// How many equal bytes in a row are shown as a run.
+const RUN: usize = 32;
+
+/// Adds the digits of each byte.
+fn put_digits(text: &mut String, bytes: &[u8]) -> Result<(), AllocError> {
+    for byte in bytes {
+        write!(text, "{byte:02x}")?;
+    }
+    Ok(())
+}
+
+/// Adds a run of equal bytes, which is not empty.
+fn put_run(text: &mut String, run: &[u8]) -> Result<(), AllocError> {
+    match run {
+        [byte, ..] if run.len() >= RUN => {
+            let count = run.len();
+            write!(text, "({byte:02x}x{count})")
+        }
+        _ => put_digits(text, run),
+    }
+}
+
+/// Bytes in hexadecimal, `-` for none. From 32 equal bytes on a run is shown as `(46x239)`.
 pub fn shown(alloc: Global, bytes: &[u8]) -> Result<String, AllocError> {
     if bytes.is_empty() {
-        String::from_str(alloc, "-")
-    } else {
-        hex::encode(alloc, bytes)
+        return String::from_str(alloc, "-");
     }
+    let mut text = String::new(alloc);
+    for run in bytes.chunk_by(|one, other| one == other) {
+        put_run(&mut text, run)?;
+    }
+    Ok(text)
 }
 
 /// Adds a group.
