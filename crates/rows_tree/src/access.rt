@@ -2,9 +2,7 @@
 
 use crate::unread::Unread;
 use crate::words::{caller, octal, optional, short_number, yes};
-use sky_access::{
-    is_of_group, is_owner_or_superuser, may, may_or_owns, may_set_owners, owns,
-};
+use sky_access::{is_of_group, is_owner_or_superuser, may, may_or_owns, may_set_owners, owns};
 use sky_base::{Attr, Cred, Device, Kind, Moment, Want};
 use std::alloc::{AllocError, Global};
 

@@ -27,11 +27,7 @@ fn entry_of(alloc: Global, word: &str) -> Result<(u64, Name, u64), Unread> {
 }
 
 /// The directory of these entries, unless the next cookie is above the last one.
-fn directory_of(
-    alloc: Global,
-    list: Vec<(u64, Name, u64)>,
-    next: u64,
-) -> Result<Entries, Unread> {
+fn directory_of(alloc: Global, list: Vec<(u64, Name, u64)>, next: u64) -> Result<Entries, Unread> {
     if next > Entries::MAX_COOKIE {
         return Err(Unread::Row);
     }

@@ -23,12 +23,7 @@ use std::io::{self, BufRead, BufReader};
 use unread::Unread;
 
 /// What a row is answered. Each word belongs to one of the groups, which are asked in turn.
-fn answer(
-    alloc: Global,
-    kept: &mut Kept,
-    word: &str,
-    args: &[&str],
-) -> Result<String, Unread> {
+fn answer(alloc: Global, kept: &mut Kept, word: &str, args: &[&str]) -> Result<String, Unread> {
     if let Some(text) = access::answer(alloc, word, args)? {
         return Ok(text);
     }
