@@ -16,7 +16,7 @@ use std::marker::Model;
 /// A journal's disk and a cloud in memory, which tell all that there is to tell. Each call is kept in a
 /// record, for which memory was reserved; a call beyond it fails, and so do the calls that are listed.
 /// `stopped` shows what a stop within a call leaves.
-#[derive(Debug, Drop)]
+#[derive(Drop)]
 pub struct MemSite {
     alloc: Global,
     // As it was at first.
