@@ -20,7 +20,9 @@ pub const AREA_HEADER: u64 = 64;
 pub fn push_entry(batch: &mut Vec<u8>, entry: &[u8])
     requires some { 1 ≤ length batch.old.items }
     requires room { length batch.old.items + length entry.now ≤ vec_capacity batch.old }
-    ensures { batch.new.items ≡ take (length batch.old.items - 1) batch.old.items ++ entry.now ++ 0 ∷ [] }
+    ensures items { batch.new.items ≡ take (length batch.old.items - 1) batch.old.items ++ entry.now ++ 0 ∷ [] }
+    ensures size { length batch.new.items ≡ length batch.old.items + length entry.now }
+    ensures capacity { vec_capacity batch.old ≤ vec_capacity batch.new }
 {
     batch.pop();
     batch.extend_from_slice(entry).unwrap();
@@ -67,6 +69,7 @@ pub fn complete_batch(batch: &mut Vec<u8>, count: u32)
     ensures body { body_in batch.new.items ≡ body_in batch.old.items }
     ensures size { length batch.new.items ≡ length batch.old.items }
     ensures closed { is_open (length batch.new.items - 1) batch.new.items ≡ false }
+    ensures capacity { vec_capacity batch.new ≡ vec_capacity batch.old }
 {
     put_numbers(batch.as_mut_slice(), count);
 }
@@ -76,6 +79,7 @@ pub fn clear_batch(batch: &mut Vec<u8>)
     requires framed { 16 ≤ length batch.old.items }
     ensures size { length batch.new.items ≡ 16 }
     ensures closed { is_open 15 batch.new.items ≡ false }
+    ensures capacity { vec_capacity batch.new ≡ vec_capacity batch.old }
 {
     batch.truncate(BATCH_FRAME);
     batch[BATCH_FRAME - 1] = CLOSED;

@@ -1,11 +1,12 @@
 //! Bringing the journal to its disk: commits, rotations, and the closing of areas.
 
-ghost use Rattle.std.specs.Prelude.{◌≡◌, ◌⊎◌, ◌<◌, ◌≤◌, ℕ, false, List, [], ◌++◌, None, Some, IfSome, OnOk, IsErr, is_err};
+ghost use Rattle.std.specs.Prelude.{◌≡◌, ◌⊎◌, ◌<◌, ◌≤◌, ℕ, false, List, [], ◌++◌, None, Some, IfSome, OnOk, OnErr, IsErr, is_err};
 ghost use Rattle.sky_base.specs.Limits.{max_number};
 ghost use Rattle.sky_outside.specs.Count.{Counts};
 ghost use Rattle.sky_outside.specs.Moments.{SameCloud, LeavesOnly, BesideObjects};
 ghost use Rattle.sky_outside.specs.Told.{WhereTold, BothTold};
 ghost use Rattle.sky_journal.specs.Journal.{StandsFor, StandsOn, Reads, SameButSpare, after_commit, after_rotation, without_older, without_newer, wiped};
+ghost use Rattle.sky_journal.specs.Rest.{after_failure, LeavesRest};
 
 use crate::batch::{AREA_HEADER, behind_area_gate, clear_batch, complete_batch};
 use crate::gate::{CLOSED, write_and_open};
@@ -27,7 +28,10 @@ impl Journal {
         ensures any_moment { WhereTold (D.image disk.old) (λ image. (older newer : List (List ℕ)) → StandsFor self.old image older newer
             → LeavesOnly D.Storage disk.old disk.new (BesideObjects D.Storage disk.old
             (λ left. Reads self.old older newer left ⊎ Reads self.old older (newer ++ self.old.pending) left))) }
+        ensures rest { BothTold (LeavesRest self.old) (D.image disk.old) (D.image disk.new) }
         ensures down { self.new.down ≡ is_err result }
+        ensures failed { OnErr result (self.new ≡ after_failure self.old) }
+        ensures spare { self.old.spare ≤ self.new.spare }
         ensures beside { SameCloud D.Storage disk.old disk.new }
         ensures size { D.bytes_of disk.new ≡ D.bytes_of disk.old }
         ensures cause { Counts (D.disk_faults disk.old) (D.disk_faults disk.new) (IsErr result) }
@@ -49,7 +53,8 @@ impl Journal {
 
     /// Brings all pending entries to the disk as one batch: it writes the batch behind a closed gate, syncs, opens the gate, and syncs.
     /// Where nothing is pending it makes no call of the disk. `Failed` only where the disk's count of faults rose; the journal is down
-    /// then, and is to be read anew.
+    /// then, and is to be read anew. Whether it fails or not, what is behind the second area and in an area that is closed stays,
+    /// and so does the memory that `reserve` took.
     ///
     /// A crash at any moment of it leaves the entries before the call, or those and all of the batch.
     pub fn commit<D: Disk>(&mut self, disk: &mut D) -> Result<(), Failed>
@@ -69,7 +74,10 @@ impl Journal {
             → (left : List ℕ) → D.may_leave disk.new left → Reads self.old older (newer ++ self.old.pending) left)) }
 
         ensures quiet { self.old.pending ≡ [] → disk.new ≡ disk.old }
+        ensures rest { BothTold (LeavesRest self.old) (D.image disk.old) (D.image disk.new) }
         ensures down { self.new.down ≡ is_err result }
+        ensures failed { OnErr result (self.new ≡ after_failure self.old) }
+        ensures spare { self.old.spare ≤ self.new.spare }
         ensures beside { SameCloud D.Storage disk.old disk.new }
         ensures size { D.bytes_of disk.new ≡ D.bytes_of disk.old }
         ensures cause { Counts (D.disk_faults disk.old) (D.disk_faults disk.new) (IsErr result) }

@@ -5,6 +5,7 @@ use Rattle.sky_journal.proofs.Committing.{nothing_pending, nothing_counted, no_c
 use Rattle.sky_journal.proofs.Disks.{ok_then}
 use Rattle.sky_journal.proofs.Idle.{CommitLasts, idle_moments, idle_lasts, idle_holds, commit_lasts}
 use Rattle.sky_journal.proofs.Inside.{journal_known, pending_known}
+use Rattle.sky_journal.proofs.Rest.{rest_same}
 use Rattle.sky_journal.proofs.journal.Journal.commit.Goals as goal
 
 pub returns-in_default-clause-ok : goal.returns-in_default-clause-ok
@@ -67,3 +68,9 @@ pub returns-in_default-clause-holds : goal.returns-in_default-clause-holds
 returns-in_default-clause-holds g c =
     let v = c.args.self.now in
     idle_holds v (nothing_pending c.self.inside v c.self.invariant c.self.view_is c.in_default.is) (g.D.Storage.image c.args.disk.now)
+
+pub returns-in_default-clause-rest : goal.returns-in_default-clause-rest
+returns-in_default-clause-rest g c = rest_same c.args.self.now (g.D.Storage.image c.args.disk.now)
+
+pub returns-then-self-eq0-clause-rest : goal.returns-then-self-eq0-clause-rest
+returns-then-self-eq0-clause-rest g c = rest_same c.args.self.now (g.D.Storage.image c.args.disk.now)
