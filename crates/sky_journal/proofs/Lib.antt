@@ -29,5 +29,6 @@ pub mod Reading
 pub mod ReadingFaults
 pub mod Rest
 pub mod Rotated
+pub mod Unused
 pub mod Wents
 pub mod Wiped

@@ -1,4 +1,4 @@
-use Rattle.std.proofs.Common.{◌≡◌, ◌-◌, ℕ, true, length, Some, vec_len, vec_capacity, sym, subst, ap, ◌∙◌, arith}
+use Rattle.std.proofs.Common.{◌≡◌, ◌+◌, ◌-◌, ℕ, true, length, Some, vec_len, vec_capacity, sym, subst, ap, ◌∙◌, arith}
 use Rattle.sky_journal.specs.Journal.{JournalView, IsJournal, after_commit, batch_size}
 use Rattle.sky_journal.specs.Rest.{after_failure}
 use Rattle.sky_journal.specs.contracts.journal.Journal.{the_view}
@@ -8,6 +8,7 @@ use Rattle.sky_journal.proofs.Committing.{busy_view, busy_invariant, behind_know
 use Rattle.sky_journal.proofs.Inside.{journal_known, pending_known}
 use Rattle.sky_journal.proofs.Journals.{IsJournal-but, IsJournal-after_commit}
 use Rattle.sky_journal.proofs.Rest.{commit_rest, failed_now}
+use Rattle.sky_journal.proofs.Unused.{batch_unused}
 use Rattle.sky_journal.proofs.journal.Journal.commit_to.Goals as goal
 
 -- the bytes that are written, as they stand behind the gate
@@ -134,3 +135,15 @@ returns-clause-spare g c =
       new.ok.0,
       ap (λ (v : JournalView). v.spare) c.self.view_is,
     )
+
+pub returns-clause-unused : goal.returns-clause-unused
+returns-clause-unused g c =
+    let v = c.args.self.now in
+    let is = journal_known c.self.inside v c.self.invariant c.self.view_is in
+    let pending = pending_known c.self.inside v c.self.invariant c.self.view_is in
+    let long : length c.as_slice.result.now ≡ batch_size v.pending =
+    omega (arith, c.as_slice.ensures.len, c.complete_batch.new.batch.ok.0, c.complete_batch.ensures.size, c.self.inside.batch.ok.0, pending.1, batch_size-some v.pending c.requires.some) in
+    batch_unused (c.args.area.start + c.args.area.end) (g.D.Storage.bytes_of c.args.disk.now) c.as_slice.result.now (g.D.Storage.image c.args.disk.now) (g.D.Storage.image c.write_and_open.new.disk)
+    (g.D.Storage.has_size c.args.disk.now) (omega (arith, commit_within v c.args.area (length c.as_slice.result.now) is c.requires.newer long, c.requires.stands.size))
+    c.in_ok-write_and_open.ensures.written v.pending
+    (behind_known c.self.inside v c.self.view_is c.as_slice.result.now c.complete_batch.new.batch.items c.as_slice.ensures.value (c.complete_batch.ensures.complete (the_view c.self.inside).pending c.self.invariant.3))
