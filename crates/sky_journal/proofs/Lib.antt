@@ -27,6 +27,8 @@ pub mod Passes
 pub mod Places
 pub mod Reading
 pub mod ReadingFaults
+pub mod Rest
 pub mod Rotated
+pub mod Unused
 pub mod Wents
 pub mod Wiped

@@ -7,5 +7,6 @@ pub mod Looking
 pub mod OnePass
 pub mod Pending
 pub mod Place
+pub mod Rest
 pub mod Text
 pub mod Written

@@ -1,7 +1,7 @@
 //! The bytes of a batch to come, as they stand in memory.
 
 ghost use Rattle.std.specs.Int.{w32, w64, to_be_bytes};
-ghost use Rattle.std.specs.Prelude.{◌≡◌, ◌+◌, ◌-◌, ◌≤◌, ℕ, false, List, [], ◌∷◌, ◌++◌, Some, length, take, vec_capacity};
+ghost use Rattle.std.specs.Prelude.{◌≡◌, ◌+◌, ◌-◌, ◌≤◌, ℕ, false, List, [], ◌∷◌, ◌++◌, Some, length, replicate, take, vec_capacity};
 ghost use Rattle.sky_outside.specs.Image.{written};
 ghost use Rattle.sky_journal.specs.Layout.{is_open};
 ghost use Rattle.sky_journal.specs.Pending.{body_in};
@@ -20,7 +20,9 @@ pub const AREA_HEADER: u64 = 64;
 pub fn push_entry(batch: &mut Vec<u8>, entry: &[u8])
     requires some { 1 ≤ length batch.old.items }
     requires room { length batch.old.items + length entry.now ≤ vec_capacity batch.old }
-    ensures { batch.new.items ≡ take (length batch.old.items - 1) batch.old.items ++ entry.now ++ 0 ∷ [] }
+    ensures items { batch.new.items ≡ take (length batch.old.items - 1) batch.old.items ++ entry.now ++ 0 ∷ [] }
+    ensures size { length batch.new.items ≡ length batch.old.items + length entry.now }
+    ensures capacity { vec_capacity batch.old ≤ vec_capacity batch.new }
 {
     batch.pop();
     batch.extend_from_slice(entry).unwrap();
@@ -43,9 +45,29 @@ fn put_u64(bytes: &mut [u8], at: usize, n: u64)
     bytes[at..at + 8].copy_from_slice(&n.to_be_bytes());
 }
 
+/// Writes zeros into the first three bytes.
+fn put_zeros(bytes: &mut [u8])
+    requires { 3 ≤ length bytes.old }
+    ensures { bytes.new ≡ written bytes.old 0 (replicate 3 0) }
+{
+    bytes[0..3].copy_from_slice(&[0; 3]);
+}
+
+/// Writes into the bytes of a batch, as zero, those of its header that are not used.
+fn clear_unused(batch: &mut [u8])
+    requires { 16 ≤ length batch.old }
+    ensures unused { take 3 batch.new ≡ replicate 3 0 }
+    ensures body { body_in batch.new ≡ body_in batch.old }
+    ensures size { length batch.new ≡ length batch.old }
+    ensures gate { is_open (length batch.new - 1) batch.new ≡ is_open (length batch.old - 1) batch.old }
+{
+    put_zeros(batch);
+}
+
 /// Writes into the bytes of a batch how many entries it has, and how many bytes these have.
 fn put_numbers(batch: &mut [u8], count: u32)
     requires framed { 16 ≤ length batch.old }
+    requires unused { take 3 batch.old ≡ replicate 3 0 }
     requires closed { is_open (length batch.old - 1) batch.old ≡ false }
     ensures complete { (entries : List (List ℕ)) → entries_in count (body_in batch.old) ≡ Some entries
         → IsBehindBatchGate batch.new entries }
@@ -58,6 +80,20 @@ fn put_numbers(batch: &mut [u8], count: u32)
     put_u64(batch, 7, size);
 }
 
+/// Writes the header of a batch behind its gate, for so many entries.
+fn put_header(batch: &mut [u8], count: u32)
+    requires framed { 16 ≤ length batch.old }
+    requires closed { is_open (length batch.old - 1) batch.old ≡ false }
+    ensures complete { (entries : List (List ℕ)) → entries_in count (body_in batch.old) ≡ Some entries
+        → IsBehindBatchGate batch.new entries }
+    ensures body { body_in batch.new ≡ body_in batch.old }
+    ensures size { length batch.new ≡ length batch.old }
+    ensures closed { is_open (length batch.new - 1) batch.new ≡ false }
+{
+    clear_unused(batch);
+    put_numbers(batch, count);
+}
+
 /// Writes into a batch how many entries it has, and how many bytes these have.
 pub fn complete_batch(batch: &mut Vec<u8>, count: u32)
     requires framed { 16 ≤ length batch.old.items }
@@ -67,8 +103,9 @@ pub fn complete_batch(batch: &mut Vec<u8>, count: u32)
     ensures body { body_in batch.new.items ≡ body_in batch.old.items }
     ensures size { length batch.new.items ≡ length batch.old.items }
     ensures closed { is_open (length batch.new.items - 1) batch.new.items ≡ false }
+    ensures capacity { vec_capacity batch.new ≡ vec_capacity batch.old }
 {
-    put_numbers(batch.as_mut_slice(), count);
+    put_header(batch.as_mut_slice(), count);
 }
 
 /// Takes all entries out of a batch.
@@ -76,6 +113,7 @@ pub fn clear_batch(batch: &mut Vec<u8>)
     requires framed { 16 ≤ length batch.old.items }
     ensures size { length batch.new.items ≡ 16 }
     ensures closed { is_open 15 batch.new.items ≡ false }
+    ensures capacity { vec_capacity batch.new ≡ vec_capacity batch.old }
 {
     batch.truncate(BATCH_FRAME);
     batch[BATCH_FRAME - 1] = CLOSED;

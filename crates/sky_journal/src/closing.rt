@@ -1,10 +1,11 @@
 //! Closing areas of the journal, whose entries are then no longer on its disk.
 
-ghost use Rattle.std.specs.Prelude.{◌≡◌, ◌⊎◌, ℕ, false, List, [], None, Some, OnOk, IsErr, is_err};
+ghost use Rattle.std.specs.Prelude.{◌≡◌, ◌⊎◌, ◌≤◌, ℕ, false, List, [], None, Some, OnOk, OnErr, IsErr, is_err};
 ghost use Rattle.sky_outside.specs.Count.{Counts};
 ghost use Rattle.sky_outside.specs.Moments.{SameCloud, LeavesOnly, BesideObjects};
 ghost use Rattle.sky_outside.specs.Told.{WhereTold, BothTold};
 ghost use Rattle.sky_journal.specs.Journal.{StandsFor, StandsOn, Reads, SameButSpare, without_older, without_newer, wiped};
+ghost use Rattle.sky_journal.specs.Rest.{after_failure, LeavesRest};
 
 use crate::batch::clear_batch;
 use crate::gate::CLOSED;
@@ -25,7 +26,10 @@ impl Journal {
         ensures any_moment { WhereTold (D.image disk.old) (λ image. (older newer : List (List ℕ)) → StandsFor self.old image older newer
             → LeavesOnly D.Storage disk.old disk.new (BesideObjects D.Storage disk.old
             (λ left. Reads self.old older newer left ⊎ Reads (without_older self.old) [] newer left))) }
+        ensures rest { BothTold (LeavesRest self.old) (D.image disk.old) (D.image disk.new) }
         ensures down { self.new.down ≡ is_err result }
+        ensures failed { OnErr result (self.new ≡ after_failure self.old) }
+        ensures spare { self.new.spare ≡ self.old.spare }
         ensures beside { SameCloud D.Storage disk.old disk.new }
         ensures size { D.bytes_of disk.new ≡ D.bytes_of disk.old }
         ensures cause { Counts (D.disk_faults disk.old) (D.disk_faults disk.new) (IsErr result) }
@@ -50,7 +54,10 @@ impl Journal {
         ensures any_moment { WhereTold (D.image disk.old) (λ image. (older newer : List (List ℕ)) → StandsFor self.old image older newer
             → LeavesOnly D.Storage disk.old disk.new (BesideObjects D.Storage disk.old
             (λ left. Reads self.old older newer left ⊎ Reads (without_newer self.old) [] older left))) }
+        ensures rest { BothTold (LeavesRest self.old) (D.image disk.old) (D.image disk.new) }
         ensures down { self.new.down ≡ is_err result }
+        ensures failed { OnErr result (self.new ≡ after_failure self.old) }
+        ensures spare { self.old.spare ≤ self.new.spare }
         ensures beside { SameCloud D.Storage disk.old disk.new }
         ensures size { D.bytes_of disk.new ≡ D.bytes_of disk.old }
         ensures cause { Counts (D.disk_faults disk.old) (D.disk_faults disk.new) (IsErr result) }
@@ -79,7 +86,10 @@ impl Journal {
             (λ left. Reads self.old older newer left ⊎ Reads (without_newer self.old) [] older left))) }
         ensures quiet { self.old.newer ≡ None → disk.new ≡ disk.old }
         ensures none { self.old.newer ≡ None → self.new.newer ≡ None }
+        ensures rest { BothTold (LeavesRest self.old) (D.image disk.old) (D.image disk.new) }
         ensures down { self.new.down ≡ is_err result }
+        ensures failed { OnErr result (self.new ≡ after_failure self.old) }
+        ensures spare { self.old.spare ≤ self.new.spare }
         ensures beside { SameCloud D.Storage disk.old disk.new }
         ensures size { D.bytes_of disk.new ≡ D.bytes_of disk.old }
         ensures cause { Counts (D.disk_faults disk.old) (D.disk_faults disk.new) (IsErr result) }
@@ -110,7 +120,10 @@ impl Journal {
             (λ left. Reads self.old older newer left ⊎ Reads (without_older self.old) [] newer left))) }
 
         ensures quiet { self.old.older ≡ None → disk.new ≡ disk.old }
+        ensures rest { BothTold (LeavesRest self.old) (D.image disk.old) (D.image disk.new) }
         ensures down { self.new.down ≡ is_err result }
+        ensures failed { OnErr result (self.new ≡ after_failure self.old) }
+        ensures spare { self.new.spare ≡ self.old.spare }
         ensures beside { SameCloud D.Storage disk.old disk.new }
         ensures size { D.bytes_of disk.new ≡ D.bytes_of disk.old }
         ensures cause { Counts (D.disk_faults disk.old) (D.disk_faults disk.new) (IsErr result) }
@@ -141,7 +154,11 @@ impl Journal {
             (λ left. Reads self.old older newer left ⊎ Reads (without_newer self.old) [] older left ⊎ Reads (wiped self.old) [] [] left))) }
 
         ensures quiet { self.old.newer ≡ None → disk.new ≡ disk.old }
+        ensures rest { BothTold (LeavesRest self.old) (D.image disk.old) (D.image disk.new) }
         ensures down { self.new.down ≡ is_err result }
+        ensures failed { OnErr result ((self.new ≡ after_failure self.old)
+            ⊎ (self.new ≡ record (after_failure (without_newer self.old)) { spare = self.new.spare })) }
+        ensures spare { self.old.spare ≤ self.new.spare }
         ensures beside { SameCloud D.Storage disk.old disk.new }
         ensures size { D.bytes_of disk.new ≡ D.bytes_of disk.old }
         ensures cause { Counts (D.disk_faults disk.old) (D.disk_faults disk.new) (IsErr result) }

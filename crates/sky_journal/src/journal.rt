@@ -147,6 +147,7 @@ impl Journal {
     /// Takes memory for an entry of this many bytes, which an `append` then needs none for.
     pub fn reserve(&mut self, entry: u32) -> Result<(), NoMemory>
         ensures spare { OnOk result (entry ≤ self.new.spare) }
+        ensures kept { self.old.spare ≤ self.new.spare }
         ensures same { SameButSpare self.old self.new }
     {
         match self.batch.reserve(entry as usize) {
@@ -159,6 +160,7 @@ impl Journal {
     /// an area is open. It copies the entry once.
     ///
     /// `Full` exactly where the batch with it would be larger than the room. `Memory` never comes where a `reserve` took memory for it.
+    /// Of that memory it takes no more than the entry.
     pub fn append(&mut self, entry: &[u8]) -> Result<(), AppendFault>
         requires open { IsSome self.old.newer }
         requires framed { IsFramed entry.now }
@@ -170,6 +172,7 @@ impl Journal {
         ensures full { (room wanted : _) → IsErrOf result (Full room wanted)
             → (room ≡ room_of self.old) × (wanted ≡ wanted_of self.old (length entry.now)) × (room < wanted) }
         ensures memory { length entry.now ≤ self.old.spare → IsErrOf result AppendFault.Memory → ⊥ }
+        ensures spare { self.old.spare ≤ self.new.spare + length entry.now }
         ensures err { OnErr result (SameButSpare self.old self.new) }
     {
         let room = self.room();

@@ -107,6 +107,7 @@ fn take_entry<D: Disk>(
     ensures given { IfOk result (λ found. (image : List ℕ) (a : OpenArea) (list : List (ℕ × List ℕ))
         → Shows D.Storage disk.old pieces.old image → LeftIn (area_in span image).bytes a place list
         → IsSomeAnd found (IsBehindEntry (area_in span image).bytes a place entry.new.items list)) }
+    ensures none { IfOk result (λ found. IfNone found (entry.new ≡ entry.old)) }
     ensures went { Went D.Storage disk.old pieces.old disk.new pieces.new (is_disk_failure result) }
     ensures size { D.bytes_of disk.new ≡ D.bytes_of disk.old }
 {
@@ -135,6 +136,7 @@ fn entry_behind<D: Disk>(
     ensures given { IfOk result (λ found. (image : List ℕ) (a : OpenArea) (list : List (ℕ × List ℕ)) → D.image disk.old ≡ Some image
         → LeftIn (area_in span image).bytes a place list → place.last < a.last
         → IsSomeAnd found (IsBehindEntry (area_in span image).bytes a place entry.new.items list)) }
+    ensures none { IfOk result (λ found. IfNone found (entry.new ≡ entry.old)) }
     ensures looks { OnlyLooks D.Storage disk.old disk.new }
     ensures cause { Counts (D.disk_faults disk.old) (D.disk_faults disk.new) (IsTrue (is_disk_failure result)) }
     ensures cloud { D.cloud_faults disk.new ≡ D.cloud_faults disk.old }
@@ -266,7 +268,7 @@ impl Journal {
     }
 
     /// Reads the entry behind a place into a buffer, moves the place past it, and answers its number. `None` where none is left on
-    /// the disk, which leaves the place. The place is to be one that `first` or this call gave on the journal as it is now.
+    /// the disk, which leaves the place and the buffer. The place is to be one that `first` or this call gave on the journal as it is now.
     ///
     /// Both faults leave the place, and the buffer may then hold any bytes.
     pub fn next_entry<D: Disk>(
@@ -279,6 +281,7 @@ impl Journal {
         ensures next { IfOk result (λ found. WhereTold (D.image disk.old) (λ image. (list : List (ℕ × List ℕ))
             → Left self.now image place.old list → GivesNext self.now image found entry.new.items place.new list)) }
         ensures none { IfOk result (λ found. IfNone found (place.new ≡ place.old)) }
+        ensures buffer { IfOk result (λ found. IfNone found (entry.new ≡ entry.old)) }
         ensures err { OnErr result (place.new ≡ place.old) }
         ensures looks { OnlyLooks D.Storage disk.old disk.new }
         ensures cause { Counts (D.disk_faults disk.old) (D.disk_faults disk.new) (IsErrOf result DiskFault) }

@@ -1,11 +1,13 @@
 //! Opening an area of the journal beside the one that is open.
 
-ghost use Rattle.std.specs.Prelude.{◌≡◌, ◌<◌, ℕ, false, List, [], None, IfSome, OnOk, IsErr, is_err};
+ghost use Rattle.std.specs.Prelude.{◌≡◌, ◌<◌, ℕ, false, List, [], None, IfSome, OnOk, OnErr, IsErr, is_err};
 ghost use Rattle.sky_base.specs.Limits.{max_number};
 ghost use Rattle.sky_outside.specs.Count.{Counts};
 ghost use Rattle.sky_outside.specs.Moments.{SameCloud, LeavesOnly, BesideObjects};
 ghost use Rattle.sky_outside.specs.Told.{WhereTold, BothTold};
 ghost use Rattle.sky_journal.specs.Journal.{StandsFor, StandsOn, ReadsAs, SameButSpare, after_rotation, entries, first_base, start_beside as start_of_new};
+ghost use Rattle.sky_journal.specs.Rest.{after_failure, LeavesRest};
+ghost use Rattle.sky_journal.specs.Written.{HasAreaUnused};
 
 use crate::batch::{AREA_HEADER, behind_area_gate};
 use crate::gate::write_and_open;
@@ -47,7 +49,12 @@ impl Journal {
             → LeavesOnly D.Storage disk.old disk.new (BesideObjects D.Storage disk.old
             (ReadsAs self.old.volume self.old.size (first_base (after_rotation self.old base)) (entries self.old older newer)))) }
 
+        // Bytes that are not used are zero in what it writes.
+        ensures unused { OnOk result (WhereTold (D.image disk.new) (HasAreaUnused (start_of_new self.old.size self.old.newer))) }
+        ensures rest { BothTold (LeavesRest (after_rotation self.old base)) (D.image disk.old) (D.image disk.new) }
         ensures down { self.new.down ≡ is_err result }
+        ensures failed { OnErr result (self.new ≡ after_failure self.old) }
+        ensures spare { self.new.spare ≡ self.old.spare }
         ensures beside { SameCloud D.Storage disk.old disk.new }
         ensures size { D.bytes_of disk.new ≡ D.bytes_of disk.old }
         ensures cause { Counts (D.disk_faults disk.old) (D.disk_faults disk.new) (IsErr result) }

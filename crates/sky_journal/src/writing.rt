@@ -1,11 +1,13 @@
 //! Bringing the journal to its disk: commits, rotations, and the closing of areas.
 
-ghost use Rattle.std.specs.Prelude.{◌≡◌, ◌⊎◌, ◌<◌, ◌≤◌, ℕ, false, List, [], ◌++◌, None, Some, IfSome, OnOk, IsErr, is_err};
+ghost use Rattle.std.specs.Prelude.{◌≡◌, ◌≢◌, ◌+◌, ◌⊎◌, ◌<◌, ◌≤◌, ℕ, false, List, [], ◌++◌, None, Some, IfSome, OnOk, OnErr, IsErr, is_err};
 ghost use Rattle.sky_base.specs.Limits.{max_number};
 ghost use Rattle.sky_outside.specs.Count.{Counts};
 ghost use Rattle.sky_outside.specs.Moments.{SameCloud, LeavesOnly, BesideObjects};
 ghost use Rattle.sky_outside.specs.Told.{WhereTold, BothTold};
 ghost use Rattle.sky_journal.specs.Journal.{StandsFor, StandsOn, Reads, SameButSpare, after_commit, after_rotation, without_older, without_newer, wiped};
+ghost use Rattle.sky_journal.specs.Rest.{after_failure, LeavesRest};
+ghost use Rattle.sky_journal.specs.Written.{HasBatchUnused};
 
 use crate::batch::{AREA_HEADER, behind_area_gate, clear_batch, complete_batch};
 use crate::gate::{CLOSED, write_and_open};
@@ -24,10 +26,14 @@ impl Journal {
         ensures holds { OnOk result (BothTold (λ old new. (older newer : List (List ℕ)) → StandsFor self.old old older newer
             → StandsFor self.new new older (newer ++ self.old.pending)) (D.image disk.old) (D.image disk.new)) }
         ensures stands { OnOk result (StandsOn D.Storage self.new disk.new) }
+        ensures unused { OnOk result (WhereTold (D.image disk.new) (HasBatchUnused (area.start + area.end))) }
         ensures any_moment { WhereTold (D.image disk.old) (λ image. (older newer : List (List ℕ)) → StandsFor self.old image older newer
             → LeavesOnly D.Storage disk.old disk.new (BesideObjects D.Storage disk.old
             (λ left. Reads self.old older newer left ⊎ Reads self.old older (newer ++ self.old.pending) left))) }
+        ensures rest { BothTold (LeavesRest self.old) (D.image disk.old) (D.image disk.new) }
         ensures down { self.new.down ≡ is_err result }
+        ensures failed { OnErr result (self.new ≡ after_failure self.old) }
+        ensures spare { self.old.spare ≤ self.new.spare }
         ensures beside { SameCloud D.Storage disk.old disk.new }
         ensures size { D.bytes_of disk.new ≡ D.bytes_of disk.old }
         ensures cause { Counts (D.disk_faults disk.old) (D.disk_faults disk.new) (IsErr result) }
@@ -49,7 +55,8 @@ impl Journal {
 
     /// Brings all pending entries to the disk as one batch: it writes the batch behind a closed gate, syncs, opens the gate, and syncs.
     /// Where nothing is pending it makes no call of the disk. `Failed` only where the disk's count of faults rose; the journal is down
-    /// then, and is to be read anew.
+    /// then, and is to be read anew. Whether it fails or not, what is behind the second area and in an area that is closed stays,
+    /// and so does the memory that `reserve` took.
     ///
     /// A crash at any moment of it leaves the entries before the call, or those and all of the batch.
     pub fn commit<D: Disk>(&mut self, disk: &mut D) -> Result<(), Failed>
@@ -68,8 +75,14 @@ impl Journal {
         ensures durable { OnOk result (WhereTold (D.image disk.old) (λ image. (older newer : List (List ℕ)) → StandsFor self.old image older newer
             → (left : List ℕ) → D.may_leave disk.new left → Reads self.old older (newer ++ self.old.pending) left)) }
 
+        // Bytes that are not used are zero in what it writes.
+        ensures unused { OnOk result (self.old.pending ≢ []
+            → IfSome self.old.newer (λ a. WhereTold (D.image disk.new) (HasBatchUnused (a.start + a.end)))) }
         ensures quiet { self.old.pending ≡ [] → disk.new ≡ disk.old }
+        ensures rest { BothTold (LeavesRest self.old) (D.image disk.old) (D.image disk.new) }
         ensures down { self.new.down ≡ is_err result }
+        ensures failed { OnErr result (self.new ≡ after_failure self.old) }
+        ensures spare { self.old.spare ≤ self.new.spare }
         ensures beside { SameCloud D.Storage disk.old disk.new }
         ensures size { D.bytes_of disk.new ≡ D.bytes_of disk.old }
         ensures cause { Counts (D.disk_faults disk.old) (D.disk_faults disk.new) (IsErr result) }

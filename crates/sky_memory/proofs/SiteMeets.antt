@@ -254,6 +254,12 @@ unchanged_disk old new same = record {
 abbrev pub Puts : SegName → List ℕ → Fate → Result Unit PutFault → MemSiteState → MemSiteState → Type 0
 Puts name bytes fate result old new = ((result ≡ Err Memory) × (new ≡ old)) ⊎ ((result ≡ put_answer_of fate) × Made (Put name) bytes fate old new)
 
+-- no call is answered by a want of memory
+never_memory : (fate : Fate) → put_answer_of fate ≡ Err Memory → ⊥
+never_memory Beyond is = cc is
+never_memory (Fails happened) is = cc is
+never_memory Goes is = cc is
+
 module _ (name : SegName) (bytes : List ℕ) (fate : Fate) (result : Result Unit PutFault) (old new : MemSiteState) (puts : Puts name bytes fate result old new) where
   pub put_time : Elapses storage.ghosts old new
   put_time = ⊎_elim (λ none. unchanged_time old new none.1) (λ put. time old new (Put name) bytes fate put.1) puts
@@ -268,3 +274,12 @@ module _ (name : SegName) (bytes : List ℕ) (fate : Fate) (result : Result Unit
   put_failed =
       ⊎_elim (λ none. on_any result _ (inl (ap (λ (s : MemSiteState). Some (now_at s).objects) none.1)))
       (λ put. on_any result _ (put_made_any old new fate name bytes put.1)) puts
+
+  pub put_memory : result ≡ Err Memory → new ≡ old
+  put_memory is = ⊎_elim (λ none. none.1) (λ put. absurd (never_memory fate (sym put.0 ∙ is))) puts
+
+  pub put_made : (result ≡ Err Memory → ⊥) → Made (Put name) bytes fate old new
+  put_made other = ⊎_elim (λ none. absurd (other none.0)) (λ put. put.1) puts
+
+  pub put_answers : (result ≡ Err Memory → ⊥) → result ≡ put_answer_of fate
+  put_answers other = ⊎_elim (λ none. absurd (other none.0)) (λ put. put.0) puts

@@ -7,7 +7,7 @@ use sky_outside::Failed;
 use std::marker::Model;
 
 /// The calls of a device: which of them fail, how many there were, and how many failed.
-#[derive(Debug, Drop)]
+#[derive(Drop)]
 pub struct Calls {
     fail: Vec<u64>,
     calls: u64,

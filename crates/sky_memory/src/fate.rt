@@ -19,7 +19,7 @@ pub struct Fail {
 }
 
 /// How a call goes.
-#[derive(Clone, Copy, Debug, PartialEq, Eq)]
+#[derive(Clone, Copy)]
 pub enum Fate {
     /// It fails, does nothing and isn't kept: the record is full.
     Beyond,

@@ -2,7 +2,7 @@
 
 ghost use Rattle.sky_outside.specs.Count.{Counts};
 ghost use Rattle.sky_outside.specs.Image.{bytes_at};
-ghost use Rattle.std.specs.Prelude.{◌≡◌, ◌⊎◌, ◌+◌, ◌≤◌, ◌<◌, [], length, replicate, take, min, All, Some, Err, IfOk, IsErr, IsErrOf};
+ghost use Rattle.std.specs.Prelude.{◌≡◌, ◌⊎◌, ◌+◌, ◌≤◌, ◌<◌, [], length, replicate, take, min, All, Some, Err, IfOk, OnErr, IsErr, IsErrOf};
 
 use crate::fate::{Fail, answer, begin, keep, next, put_answer};
 use crate::objects::Objects;
@@ -16,7 +16,7 @@ use std::marker::Model;
 /// A journal's disk and a cloud in memory, which tell all that there is to tell. Each call is kept in a
 /// record, for which memory was reserved; a call beyond it fails, and so do the calls that are listed.
 /// `stopped` shows what a stop within a call leaves.
-#[derive(Debug, Drop)]
+#[derive(Drop)]
 pub struct MemSite {
     alloc: Global,
     // As it was at first.
@@ -274,6 +274,7 @@ impl MemSite {
     fn look_up(&self, name: SegName, offset: u64, buf: &mut [u8]) -> Result<(), GetFault>
         ensures looks { Looks (now_at self.now).objects name offset (length buf.old) buf.new result }
         ensures sure { ¬ (IsErrOf result GetFault.Failed) }
+        ensures err { OnErr result (buf.new ≡ buf.old) }
     {
         self.objects.look(name, offset, buf)
     }
@@ -339,46 +340,150 @@ impl Storage for MemSite {
 }
 
 impl Disk for MemSite {
+    ghost use Rattle.std.specs.Prelude.{OnOk};
+    ghost use Rattle.sky_outside.specs.Image.{written, Torn};
+    ghost use Rattle.sky_outside.specs.Moments.{NothingPending, LeavesNoMore, MayTear, SameCloud, Elapses};
+    ghost use Rattle.sky_memory.specs.declared.record.Step.TheVariants.{Look, Write, Sync};
+    ghost use Rattle.sky_memory.specs.Record.{answer_of};
+    ghost use Rattle.sky_memory.specs.MemSite.{now_at, fate_of, Made};
+
     /// The number of bytes. It never changes.
-    fn size(&self) -> u64 {
+    fn size(&self) -> u64
+        ensures { result ≡ length self.now.first.image }
+    {
         self.first_image.len() as u64
     }
 
-    /// Fills the buffer from this place on.
-    fn read(&mut self, at: u64, buf: &mut [u8]) -> Result<(), Failed> {
+    /// Fills the buffer from this place on. It fails where this call is listed, or is beyond the record.
+    /// `Failed` leaves the buffer.
+    fn read(&mut self, at: u64, buf: &mut [u8]) -> Result<(), Failed>
+        requires { at + length buf.old ≤ length self.old.first.image }
+        ensures made { Made Look [] (fate_of self.old 0) self.old self.new }
+        ensures answer { result ≡ answer_of (fate_of self.old 0) }
+        ensures bytes { OnOk result (buf.new ≡ bytes_at (now_at self.old).image at (length buf.old)) }
+        ensures err { OnErr result (buf.new ≡ buf.old) }
+        ensures image { Some (now_at self.new).image ≡ Some (now_at self.old).image }
+        ensures crash { LeavesNoMore ⟦<MemSite as Storage>⟧ self.old self.new }
+        ensures time { Elapses ⟦<MemSite as Storage>⟧ self.old self.new }
+        ensures beside { SameCloud ⟦<MemSite as Storage>⟧ self.old self.new }
+        ensures size { length self.new.first.image ≡ length self.old.first.image }
+        ensures cause { Counts self.old.disk_faults self.new.disk_faults (IsErr result) }
+        ensures cloud { self.new.cloud_faults ≡ self.old.cloud_faults }
+    {
         self.look_at_disk()?;
         self.copy_to(at, buf);
         Ok(())
     }
 
-    /// Writes the bytes from this place on. A write that is listed as one that failed happened or not.
-    fn write_at(&mut self, at: u64, bytes: &[u8]) -> Result<(), Failed> {
+    /// Writes the bytes from this place on. It fails where this call is listed, and then happened or not
+    /// as the list says; or where it is beyond the record, and then it did not.
+    fn write_at(&mut self, at: u64, bytes: &[u8]) -> Result<(), Failed>
+        requires { at + length bytes.now ≤ length self.old.first.image }
+        ensures made { Made (Write at) bytes.now (fate_of self.old (length bytes.now)) self.old self.new }
+        ensures answer { result ≡ answer_of (fate_of self.old (length bytes.now)) }
+        ensures written { OnOk result (Some (now_at self.new).image ≡ Some (written (now_at self.old).image at bytes.now)) }
+        ensures torn { OnErr result (Torn at (length bytes.now) (now_at self.old).image (now_at self.new).image) }
+        ensures crash { MayTear ⟦<MemSite as Storage>⟧ at (length bytes.now) self.old self.new }
+        ensures time { Elapses ⟦<MemSite as Storage>⟧ self.old self.new }
+        ensures beside { SameCloud ⟦<MemSite as Storage>⟧ self.old self.new }
+        ensures size { length self.new.first.image ≡ length self.old.first.image }
+        ensures cause { Counts self.old.disk_faults self.new.disk_faults (IsErr result) }
+        ensures cloud { self.new.cloud_faults ≡ self.old.cloud_faults }
+    {
         self.write(at, bytes)
     }
 
-    /// Makes what was written last through a stop.
-    fn sync(&mut self) -> Result<(), Failed> {
+    /// Makes what was written last through a stop. It fails where this call is listed, and then happened
+    /// or not as the list says; or where it is beyond the record, and then it did not.
+    fn sync(&mut self) -> Result<(), Failed>
+        ensures made { Made Sync [] (fate_of self.old 0) self.old self.new }
+        ensures answer { result ≡ answer_of (fate_of self.old 0) }
+        ensures durable { OnOk result (NothingPending ⟦<MemSite as Storage>⟧ self.new) }
+        ensures image { Some (now_at self.new).image ≡ Some (now_at self.old).image }
+        ensures crash { LeavesNoMore ⟦<MemSite as Storage>⟧ self.old self.new }
+        ensures time { Elapses ⟦<MemSite as Storage>⟧ self.old self.new }
+        ensures beside { SameCloud ⟦<MemSite as Storage>⟧ self.old self.new }
+        ensures size { length self.new.first.image ≡ length self.old.first.image }
+        ensures cause { Counts self.old.disk_faults self.new.disk_faults (IsErr result) }
+        ensures cloud { self.new.cloud_faults ≡ self.old.cloud_faults }
+    {
         self.flush()
     }
 }
 
 impl Cloud for MemSite {
-    /// Stores a copy of the bytes, in the place of what had that name.
-    fn put(&mut self, name: SegName, bytes: &[u8]) -> Result<(), PutFault> {
+    ghost use Rattle.std.specs.Prelude.{◌≢◌, ◌↔◌, map, OnOk, is_err};
+    ghost use Rattle.std.specs.List.Sorted.{IsStrictlySortedBy};
+    ghost use Rattle.sky_base.specs.Limits.{max_number};
+    ghost use Rattle.sky_base.specs.Order.{name_order};
+    ghost use Rattle.sky_outside.specs.CloudMap.{after_put, Happened, HappenedOrNot, Looks, listing};
+    ghost use Rattle.sky_outside.specs.Moments.{SameDisk, SameCloud, Elapses};
+    ghost use Rattle.sky_memory.specs.declared.record.Step.TheVariants.{Look, Put};
+    ghost use Rattle.sky_memory.specs.Record.{answer_of, put_answer_of};
+    ghost use Rattle.sky_memory.specs.MemSite.{now_at, fate_of, Made};
+
+    /// Stores a copy of the bytes, in the place of what had that name. It fails where this call is listed,
+    /// and then happened or not as the list says; or where it is beyond the record, and then it did not.
+    /// `Memory` comes where there was none for the copy, and then there was no call.
+    fn put(&mut self, name: SegName, bytes: &[u8]) -> Result<(), PutFault>
+        requires run { name.run < max_number }
+        requires seq { name.seq < max_number }
+        ensures memory { IsErrOf result PutFault.Memory → self.new ≡ self.old }
+        ensures made { result ≢ Err PutFault.Memory
+            → Made (Put name) bytes.now (fate_of self.old (length bytes.now)) self.old self.new }
+        ensures answer { result ≢ Err PutFault.Memory → result ≡ put_answer_of (fate_of self.old (length bytes.now)) }
+        ensures stored { OnOk result (Happened (after_put name bytes.now) (Some (now_at self.old).objects) (Some (now_at self.new).objects)) }
+        ensures failed { OnErr result (HappenedOrNot (after_put name bytes.now) (Some (now_at self.old).objects) (Some (now_at self.new).objects)) }
+        ensures time { Elapses ⟦<MemSite as Storage>⟧ self.old self.new }
+        ensures beside { SameDisk ⟦<MemSite as Storage>⟧ self.old self.new }
+        ensures size { length self.new.first.image ≡ length self.old.first.image }
+        ensures cause { Counts self.old.cloud_faults self.new.cloud_faults (IsErrOf result PutFault.Failed) }
+        ensures disk { self.new.disk_faults ≡ self.old.disk_faults }
+    {
         self.store(name, bytes)
     }
 
-    /// Fills the buffer with the object's bytes from this offset on. An error leaves the buffer.
-    fn get(&mut self, name: SegName, offset: u64, buf: &mut [u8]) -> Result<(), GetFault> {
+    /// Fills the buffer with the object's bytes from this offset on. `Failed` comes where this call is
+    /// listed, or is beyond the record. An error leaves the buffer.
+    fn get(&mut self, name: SegName, offset: u64, buf: &mut [u8]) -> Result<(), GetFault>
+        requires run { name.run < max_number }
+        requires seq { name.seq < max_number }
+        ensures made { Made Look [] (fate_of self.old 0) self.old self.new }
+        ensures fails { IsErrOf result GetFault.Failed ↔ IsErr (answer_of (fate_of self.old 0)) }
+        ensures looks { Looks (now_at self.old).objects name offset (length buf.old) buf.new result }
+        ensures err { OnErr result (buf.new ≡ buf.old) }
+        ensures same { SameCloud ⟦<MemSite as Storage>⟧ self.old self.new }
+        ensures time { Elapses ⟦<MemSite as Storage>⟧ self.old self.new }
+        ensures beside { SameDisk ⟦<MemSite as Storage>⟧ self.old self.new }
+        ensures size { length self.new.first.image ≡ length self.old.first.image }
+        ensures cause { Counts self.old.cloud_faults self.new.cloud_faults (IsErrOf result GetFault.Failed) }
+        ensures disk { self.new.disk_faults ≡ self.old.disk_faults }
+    {
         let Ok(()) = self.look_at_cloud() else {
             return Err(GetFault::Failed);
         };
         self.look_up(name, offset, buf)
     }
 
-    /// The objects that it holds, in the order of their names. `Memory` comes where there was none for
-    /// the list, and then there was no call.
-    fn list(&mut self) -> Result<Vec<Held>, PutFault> {
+    /// The objects that it holds, in the order of their names. `Failed` comes where this call is listed,
+    /// or is beyond the record. `Memory` comes where there was none for the list, and then there was no
+    /// call.
+    fn list(&mut self) -> Result<Vec<Held>, PutFault>
+        ensures memory { IsErrOf result PutFault.Memory → self.new ≡ self.old }
+        ensures made { result ≢ Err PutFault.Memory → Made Look [] (fate_of self.old 0) self.old self.new }
+        ensures fails { result ≢ Err PutFault.Memory → is_err result ≡ is_err (answer_of (fate_of self.old 0)) }
+        ensures listed { IfOk result (λ held. held.items ≡ listing (now_at self.old).objects) }
+        ensures ascending { IfOk result
+            (λ held. IsStrictlySortedBy name_order (map (λ h. h.name) held.items)) }
+        ensures runs { IfOk result (λ held. All (λ h. h.name.run < max_number) held.items) }
+        ensures seqs { IfOk result (λ held. All (λ h. h.name.seq < max_number) held.items) }
+        ensures same { SameCloud ⟦<MemSite as Storage>⟧ self.old self.new }
+        ensures time { Elapses ⟦<MemSite as Storage>⟧ self.old self.new }
+        ensures beside { SameDisk ⟦<MemSite as Storage>⟧ self.old self.new }
+        ensures size { length self.new.first.image ≡ length self.old.first.image }
+        ensures cause { Counts self.old.cloud_faults self.new.cloud_faults (IsErrOf result PutFault.Failed) }
+        ensures disk { self.new.disk_faults ≡ self.old.disk_faults }
+    {
         let Ok(held) = self.objects.list(self.alloc) else {
             return Err(PutFault::Memory);
         };
@@ -390,8 +495,29 @@ impl Cloud for MemSite {
 }
 
 impl Site for MemSite {
-    /// Removes an object, or does nothing where none has that name.
-    fn remove(&mut self, name: SegName) -> Result<(), Failed> {
+    ghost use Rattle.std.specs.Prelude.{OnOk};
+    ghost use Rattle.sky_base.specs.Limits.{max_number};
+    ghost use Rattle.sky_outside.specs.CloudMap.{after_removal, Happened, HappenedOrNot};
+    ghost use Rattle.sky_outside.specs.Moments.{SameDisk, Elapses};
+    ghost use Rattle.sky_memory.specs.declared.record.Step.TheVariants.{Remove};
+    ghost use Rattle.sky_memory.specs.Record.{answer_of};
+    ghost use Rattle.sky_memory.specs.MemSite.{now_at, fate_of, Made};
+
+    /// Removes an object, or does nothing where none has that name. It fails where this call is listed,
+    /// and then happened or not as the list says; or where it is beyond the record, and then it did not.
+    fn remove(&mut self, name: SegName) -> Result<(), Failed>
+        requires run { name.run < max_number }
+        requires seq { name.seq < max_number }
+        ensures made { Made (Remove name) [] (fate_of self.old 0) self.old self.new }
+        ensures answer { result ≡ answer_of (fate_of self.old 0) }
+        ensures removed { OnOk result (Happened (after_removal name) (Some (now_at self.old).objects) (Some (now_at self.new).objects)) }
+        ensures failed { OnErr result (HappenedOrNot (after_removal name) (Some (now_at self.old).objects) (Some (now_at self.new).objects)) }
+        ensures time { Elapses ⟦<MemSite as Storage>⟧ self.old self.new }
+        ensures beside { SameDisk ⟦<MemSite as Storage>⟧ self.old self.new }
+        ensures size { length self.new.first.image ≡ length self.old.first.image }
+        ensures cause { Counts self.old.cloud_faults self.new.cloud_faults (IsErr result) }
+        ensures disk { self.new.disk_faults ≡ self.old.disk_faults }
+    {
         self.discard(name)
     }
 }

@@ -12,7 +12,7 @@ use std::collections::BTreeMap;
 use std::marker::Model;
 
 /// Objects under their names.
-#[derive(Debug, Drop)]
+#[derive(Drop)]
 pub struct Objects {
     held: BTreeMap<SegName, Vec<u8>>,
 }

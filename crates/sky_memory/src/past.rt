@@ -11,7 +11,7 @@ use std::alloc::Global;
 
 /// A site at some moment: its disk as it reads, as it was at the last sync, and as it was then with
 /// each write since, the bytes inverted; and the cloud's objects.
-#[derive(Debug, Drop)]
+#[derive(Drop)]
 pub struct Past {
     pub image: Vec<u8>,
     synced: Vec<u8>,

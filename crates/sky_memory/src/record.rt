@@ -7,7 +7,7 @@ use std::alloc::Global;
 use std::marker::Model;
 
 /// What a call asks for.
-#[derive(Clone, Copy, Debug, PartialEq, Eq)]
+#[derive(Clone, Copy)]
 pub enum Step {
     /// To read the disk, or to look into the cloud.
     Look,
@@ -21,7 +21,7 @@ pub enum Step {
 }
 
 // A call, and where its bytes lie.
-#[derive(Clone, Copy, Debug, PartialEq, Eq)]
+#[derive(Clone, Copy)]
 pub struct Entry {
     step: Step,
     happened: bool,
@@ -30,7 +30,7 @@ pub struct Entry {
 }
 
 /// The calls of a site, for a number of them and of their bytes for which memory was reserved.
-#[derive(Debug, Drop)]
+#[derive(Drop)]
 pub struct Record {
     entries: Vec<Entry>,
     bytes: Vec<u8>,

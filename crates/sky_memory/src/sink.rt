@@ -12,7 +12,7 @@ use std::marker::Model;
 /// A sink over room in memory, reserved once. It tells the bytes that it was given, and takes each
 /// piece whole. A piece for which no room is left fails, and so do the calls that are listed, each
 /// raising its count of faults. A write takes no memory.
-#[derive(Debug, Drop)]
+#[derive(Drop)]
 pub struct MemSink {
     bytes: Vec<u8>,
     room: usize,

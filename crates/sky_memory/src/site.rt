@@ -13,7 +13,7 @@ use std::alloc::Global;
 use std::marker::Model;
 
 /// A journal's disk and a cloud in memory. Neither fails, and nothing outlives the value.
-#[derive(Debug, Drop)]
+#[derive(Drop)]
 pub struct SureSite {
     alloc: Global,
     image: Vec<u8>,

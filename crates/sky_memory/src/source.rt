@@ -8,7 +8,7 @@ use sky_outside::{Failed, Source};
 use std::marker::Model;
 
 // Bytes that are taken one after the other, from the first on.
-#[derive(Debug, Drop)]
+#[derive(Drop)]
 struct Supply {
     bytes: Vec<u8>,
     taken: usize,
@@ -46,7 +46,7 @@ impl Supply {
 
 /// A source over bytes in memory. It tells the bytes that are left, and a read gives as many as the
 /// buffer has room for. Calls that are listed fail, each raising its count of faults.
-#[derive(Debug, Drop)]
+#[derive(Drop)]
 pub struct MemSource {
     supply: Supply,
     calls: Calls,
@@ -101,7 +101,7 @@ impl Source for MemSource {
 
 /// A source over bytes in memory that never fails. It tells the bytes that are left, and a read gives
 /// as many as the buffer has room for.
-#[derive(Debug, Drop)]
+#[derive(Drop)]
 pub struct SureSource(Supply);
 
 impl Model for SureSource {

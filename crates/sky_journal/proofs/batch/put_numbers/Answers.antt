@@ -11,7 +11,7 @@ returns-clause-complete c =
     let size = length c.args.batch.now - 16 in
     let is : c.put_u64.new.bytes ≡ numbered_batch c.args.batch.now c.args.count size =
     c.put_u64.ensures ∙ ap (λ (b : List ℕ). written b 7 (to_be_bytes w64 size)) c.put_u32.ensures in
-    λ entries has. subst (λ (b : List ℕ). IsBehindBatchGate b entries) (sym is) (batch_gate c.args.batch.now c.args.count entries c.requires.framed c.ranges.count.fits (search rules) c.requires.closed has)
+    λ entries has. subst (λ (b : List ℕ). IsBehindBatchGate b entries) (sym is) (batch_gate c.args.batch.now c.args.count entries c.requires.framed c.ranges.count.fits (search rules) c.requires.closed c.requires.unused has)
 
 pub returns-clause-closed : goal.returns-clause-closed
 returns-clause-closed c =

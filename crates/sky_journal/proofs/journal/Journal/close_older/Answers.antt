@@ -2,6 +2,7 @@ use Rattle.std.proofs.Common.{None, false}
 use Rattle.sky_journal.specs.contracts.journal.Journal.{the_view}
 use Rattle.sky_journal.proofs.Closed.{older_gone_view, older_moments, older_holds, older_stands}
 use Rattle.sky_journal.proofs.Inside.{journal_known}
+use Rattle.sky_journal.proofs.Rest.{older_rest}
 use Rattle.sky_journal.proofs.journal.Journal.close_older.Goals as goal
 
 pub returns-in_err-write_through-clause-any_moment : goal.returns-in_err-write_through-clause-any_moment
@@ -25,3 +26,13 @@ pub returns-clause-any_moment : goal.returns-clause-any_moment
 returns-clause-any_moment g c =
     older_moments g.D.Storage c.args.disk.now c.write_through.new.disk c.args.self.now c.args.area (journal_known c.self.inside c.args.self.now c.self.invariant c.self.view_is)
     c.requires.older c.write_through.ensures.any_moment
+
+pub returns-in_err-write_through-clause-rest : goal.returns-in_err-write_through-clause-rest
+returns-in_err-write_through-clause-rest g c =
+    older_rest c.args.self.now c.args.area (g.D.Storage.image c.args.disk.now) (g.D.Storage.image c.write_through.new.disk)
+    (journal_known c.self.inside c.args.self.now c.self.invariant c.self.view_is) c.requires.older c.write_through.ensures.torn
+
+pub returns-clause-rest : goal.returns-clause-rest
+returns-clause-rest g c =
+    older_rest c.args.self.now c.args.area (g.D.Storage.image c.args.disk.now) (g.D.Storage.image c.write_through.new.disk)
+    (journal_known c.self.inside c.args.self.now c.self.invariant c.self.view_is) c.requires.older c.write_through.ensures.torn

@@ -1,10 +1,15 @@
-use Rattle.std.proofs.Common.{◌++◌, List, ℕ, length, sym, ◌∙◌, ap}
+use Rattle.std.proofs.Common.{◌+◌, ◌++◌, List, ℕ, Some, length, sym, ◌∙◌, ap}
 use Rattle.sky_outside.specs.Told.{BothTold}
 use Rattle.sky_journal.specs.Journal.{StandsFor, StandsOn, SameButSpare, after_commit}
 use Rattle.sky_journal.proofs.Committing.{nothing_pending, nothing_counted, no_change}
 use Rattle.sky_journal.proofs.Disks.{ok_then}
 use Rattle.sky_journal.proofs.Idle.{CommitLasts, idle_moments, idle_lasts, idle_holds, commit_lasts}
 use Rattle.sky_journal.proofs.Inside.{journal_known, pending_known}
+use Rattle.sky_journal.proofs.Rest.{rest_same}
+use Rattle.sky_outside.specs.Told.{WhereTold}
+use Rattle.sky_journal.specs.Written.{HasBatchUnused}
+use Rattle.sky_journal.proofs.Inside.{newer_known}
+use Rattle.sky_journal.proofs.Unused.{where_open}
 use Rattle.sky_journal.proofs.journal.Journal.commit.Goals as goal
 
 pub returns-in_default-clause-ok : goal.returns-in_default-clause-ok
@@ -67,3 +72,23 @@ pub returns-in_default-clause-holds : goal.returns-in_default-clause-holds
 returns-in_default-clause-holds g c =
     let v = c.args.self.now in
     idle_holds v (nothing_pending c.self.inside v c.self.invariant c.self.view_is c.in_default.is) (g.D.Storage.image c.args.disk.now)
+
+pub returns-in_default-clause-rest : goal.returns-in_default-clause-rest
+returns-in_default-clause-rest g c = rest_same c.args.self.now (g.D.Storage.image c.args.disk.now)
+
+pub returns-then-self-eq0-clause-rest : goal.returns-then-self-eq0-clause-rest
+returns-then-self-eq0-clause-rest g c = rest_same c.args.self.now (g.D.Storage.image c.args.disk.now)
+
+pub returns-in_default-clause-unused : goal.returns-in_default-clause-unused
+returns-in_default-clause-unused g c some =
+    let v = c.args.self.now in absurd (some (nothing_pending c.self.inside v c.self.invariant c.self.view_is c.in_default.is))
+
+pub returns-then-self-eq0-clause-unused : goal.returns-then-self-eq0-clause-unused
+returns-then-self-eq0-clause-unused g c some =
+    let v = c.args.self.now in absurd (some (nothing_counted c.self.inside v c.self.invariant c.self.view_is c.if-self-eq0.true))
+
+pub returns-clause-unused : goal.returns-clause-unused
+returns-clause-unused g c =
+    let v = c.args.self.now in
+    where_open c.commit_to.result v.newer c.in-Some.area (λ a. WhereTold (g.D.Storage.image c.commit_to.new.disk) (HasBatchUnused (a.start + a.end))) _
+    (newer_known c.self.inside v (Some c.in-Some.area) c.self.view_is c.in-Some.is) c.commit_to.ensures.unused

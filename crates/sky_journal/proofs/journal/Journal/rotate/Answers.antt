@@ -1,9 +1,13 @@
-use Rattle.std.proofs.Common.{ℕ, Some, false, subst, ap}
-use Rattle.sky_journal.specs.Written.{IsBehindAreaGate}
-use Rattle.sky_journal.specs.Journal.{JournalView, new_area}
+use Rattle.std.proofs.Common.{◌≡◌, ◌+◌, ◌≤◌, ℕ, length, Some, false, subst, ap, arith}
+use Rattle.sky_journal.specs.Written.{IsBehindAreaGate, HasAreaUnused}
+use Rattle.sky_outside.specs.Told.{WhereTold}
+use Rattle.sky_journal.specs.Journal.{JournalView, new_area, start_beside}
 use Rattle.sky_journal.specs.contracts.journal.Journal.{the_view}
+use Rattle.sky_journal.proofs.Halves.{beside_is, half_within}
 use Rattle.sky_journal.proofs.Inside.{journal_known}
 use Rattle.sky_journal.proofs.Rotated.{Rotates, rotation_view, rotation_moments, rotation_holds, rotation_stands}
+use Rattle.sky_journal.proofs.Rest.{rotation_rest}
+use Rattle.sky_journal.proofs.Unused.{area_unused}
 use Rattle.sky_journal.proofs.journal.Journal.rotate.Goals as goal
 
 pub returns-in_err-write_and_open-clause-any_moment : goal.returns-in_err-write_and_open-clause-any_moment
@@ -50,3 +54,27 @@ pub returns-clause-any_moment : goal.returns-clause-any_moment
 returns-clause-any_moment g c =
     rotation_moments g.D.Storage c.args.disk.now c.write_and_open.new.disk c.args.self.now c.args.base c.behind_area_gate.result c.start_beside-start.result (called g c)
     c.write_and_open.ensures.any_moment
+
+pub returns-in_err-write_and_open-clause-rest : goal.returns-in_err-write_and_open-clause-rest
+returns-in_err-write_and_open-clause-rest g c =
+    rotation_rest c.args.self.now c.args.base c.start_beside-start.result (length c.behind_area_gate.result) (g.D.Storage.image c.args.disk.now) (g.D.Storage.image c.write_and_open.new.disk)
+    (journal_known c.self.inside c.args.self.now c.self.invariant c.self.view_is) c.start_beside-start.ensures c.behind_area_gate.ensures.length_is c.write_and_open.ensures.torn
+
+pub returns-clause-rest : goal.returns-clause-rest
+returns-clause-rest g c =
+    rotation_rest c.args.self.now c.args.base c.start_beside-start.result (length c.behind_area_gate.result) (g.D.Storage.image c.args.disk.now) (g.D.Storage.image c.write_and_open.new.disk)
+    (journal_known c.self.inside c.args.self.now c.self.invariant c.self.view_is) c.start_beside-start.ensures c.behind_area_gate.ensures.length_is c.write_and_open.ensures.torn
+
+pub returns-clause-unused : goal.returns-clause-unused
+returns-clause-unused g c =
+    let v = c.args.self.now in
+    let is = journal_known c.self.inside v c.self.invariant c.self.view_is in
+    let place = beside_is v.size v.newer (omega (arith, is.least)) is.newer in
+    let start = c.start_beside-start.result in
+    let bytes = c.behind_area_gate.result in
+    let at : start ≡ start_beside v.size v.newer = c.start_beside-start.ensures in
+    let fits : start + 1 + length bytes ≤ g.D.Storage.bytes_of c.args.disk.now =
+    omega (arith, at, half_within v (start_beside v.size v.newer) is place.half, is.least, c.requires.stands.size, c.behind_area_gate.ensures.length_is) in
+    subst (λ (s : ℕ). WhereTold (g.D.Storage.image c.write_and_open.new.disk) (HasAreaUnused s)) at
+    (area_unused start (g.D.Storage.bytes_of c.args.disk.now) bytes (g.D.Storage.image c.args.disk.now) (g.D.Storage.image c.write_and_open.new.disk)
+    (g.D.Storage.has_size c.args.disk.now) fits c.in_ok-write_and_open.ensures.written v.volume c.args.base (called g c).header)
