@@ -215,7 +215,7 @@ fn number_of(item: &Item) -> u32
 }
 
 /// How many bytes stand behind the header of an item, and the digest of its body.
-#[derive(Clone, Copy, Debug, PartialEq, Eq)]
+#[derive(Clone, Copy)]
 pub struct Counts {
     pub body: u32,
     pub locations: u32,

@@ -1,6 +1,7 @@
 //! Attributes and handles are written (RFC 1813 section 2.6).
 
 ghost use Rattle.std.specs.Prelude.{◌≡◌, ◌+◌, ◌≤◌, ◌++◌, length, IsOk, OnOk};
+ghost use Rattle.sky_xdr.specs.Encoding.{uint, uhyper};
 ghost use Rattle.sky_xdr.specs.Writing.{written_of, room_of, name_of};
 ghost use Rattle.sky_results.specs.Attributes as encoded;
 
@@ -46,6 +47,49 @@ fn put_device(writer: &mut Writer<'_>, device: Device) -> Result<(), NoRoom>
     writer.put_u32(device.minor)
 }
 
+/// Writes what an object is and whose, 20 bytes.
+#[tactic(auto, using(crate::proofs::Sizes::sizes))]
+fn put_owner(writer: &mut Writer<'_>, a: &Attr) -> Result<(), NoRoom>
+    ensures fits { 20 ≤ room_of writer.old → IsOk result }
+    ensures written { OnOk result (written_of writer.new ≡ written_of writer.old ++ uint (encoded.ftype3 a.now.kind) ++ uint a.now.mode ++ uint a.now.nlink ++ uint a.now.uid ++ uint a.now.gid) }
+    ensures room { OnOk result (room_of writer.new + 20 ≡ room_of writer.old) }
+    ensures same_buffer { name_of writer.new ≡ name_of writer.old }
+{
+    writer.put_u32(kind_number(a.kind))?;
+    writer.put_u32(a.mode)?;
+    writer.put_u32(a.nlink)?;
+    writer.put_u32(a.uid)?;
+    writer.put_u32(a.gid)
+}
+
+/// Writes how large an object is, and where it lies, 40 bytes.
+#[tactic(auto, using(crate::proofs::Sizes::sizes))]
+fn put_place(writer: &mut Writer<'_>, a: &Attr) -> Result<(), NoRoom>
+    ensures fits { 40 ≤ room_of writer.old → IsOk result }
+    ensures written { OnOk result (written_of writer.new ≡ written_of writer.old ++ uhyper a.now.size ++ uhyper a.now.used ++ encoded.specdata3 a.now.rdev ++ uhyper a.now.fsid ++ uhyper a.now.fileid) }
+    ensures room { OnOk result (room_of writer.new + 40 ≡ room_of writer.old) }
+    ensures same_buffer { name_of writer.new ≡ name_of writer.old }
+{
+    writer.put_u64(a.size)?;
+    writer.put_u64(a.used)?;
+    put_device(writer, a.rdev)?;
+    writer.put_u64(a.fsid)?;
+    writer.put_u64(a.fileid)
+}
+
+/// Writes the times of an object, 24 bytes.
+#[tactic(auto, using(crate::proofs::Sizes::sizes))]
+fn put_times(writer: &mut Writer<'_>, a: &Attr) -> Result<(), NoRoom>
+    ensures fits { 24 ≤ room_of writer.old → IsOk result }
+    ensures written { OnOk result (written_of writer.new ≡ written_of writer.old ++ encoded.nfstime3 a.now.atime ++ encoded.nfstime3 a.now.mtime ++ encoded.nfstime3 a.now.ctime) }
+    ensures room { OnOk result (room_of writer.new + 24 ≡ room_of writer.old) }
+    ensures same_buffer { name_of writer.new ≡ name_of writer.old }
+{
+    put_moment(writer, a.atime)?;
+    put_moment(writer, a.mtime)?;
+    put_moment(writer, a.ctime)
+}
+
 /// Writes attributes, 84 bytes.
 #[tactic(auto, using(crate::proofs::Sizes::sizes), unfolding(crate::specs::Attributes::fattr3))]
 pub(crate) fn put_attr(writer: &mut Writer<'_>, a: &Attr) -> Result<(), NoRoom>
@@ -54,19 +98,9 @@ pub(crate) fn put_attr(writer: &mut Writer<'_>, a: &Attr) -> Result<(), NoRoom>
     ensures room { OnOk result (room_of writer.new + length (encoded.fattr3 a.now) ≡ room_of writer.old) }
     ensures same_buffer { name_of writer.new ≡ name_of writer.old }
 {
-    writer.put_u32(kind_number(a.kind))?;
-    writer.put_u32(a.mode)?;
-    writer.put_u32(a.nlink)?;
-    writer.put_u32(a.uid)?;
-    writer.put_u32(a.gid)?;
-    writer.put_u64(a.size)?;
-    writer.put_u64(a.used)?;
-    put_device(writer, a.rdev)?;
-    writer.put_u64(a.fsid)?;
-    writer.put_u64(a.fileid)?;
-    put_moment(writer, a.atime)?;
-    put_moment(writer, a.mtime)?;
-    put_moment(writer, a.ctime)
+    put_owner(writer, a)?;
+    put_place(writer, a)?;
+    put_times(writer, a)
 }
 
 /// Writes whether attributes are told, and those that are.

@@ -1,10 +1,10 @@
 //! The results of procedures that read are written, each behind NFS3_OK (RFC 1813 section 3.3).
 
 ghost use Rattle.std.specs.Prelude.{◌≡◌, ◌+◌, ◌^◌, ◌<◌, ◌≤◌, ◌++◌, ◌↔◌, length, IsTrue, IsOk, OnOk, None};
-ghost use Rattle.sky_xdr.specs.Encoding.{bool as boolean};
+ghost use Rattle.sky_xdr.specs.Encoding.{bool as boolean, uint, uhyper};
 ghost use Rattle.sky_xdr.specs.Writing.{written_of, room_of, name_of};
 ghost use Rattle.sky_results.specs.Answers.{nfsstat3};
-ghost use Rattle.sky_results.specs.Attributes.{fattr3};
+ghost use Rattle.sky_results.specs.Attributes.{fattr3, nfstime3};
 ghost use Rattle.sky_results.specs.Results as encoded;
 
 use crate::attributes::{post_op_attr_length, put_attr, put_handle, put_moment, put_post_op_attr};
@@ -141,6 +141,19 @@ pub(crate) fn read_is_short(r: &ReadOk) -> bool
     4 + read_length(r) < TOO_LONG
 }
 
+/// Writes three numbers: how many there may be, how many are left, and how many of them to this caller, 24 bytes.
+#[tactic(auto, using(crate::proofs::Sizes::sizes))]
+fn put_space(writer: &mut Writer<'_>, total: u64, free: u64, available: u64) -> Result<(), NoRoom>
+    ensures fits { 24 ≤ room_of writer.old → IsOk result }
+    ensures written { OnOk result (written_of writer.new ≡ written_of writer.old ++ uhyper total ++ uhyper free ++ uhyper available) }
+    ensures room { OnOk result (room_of writer.new + 24 ≡ room_of writer.old) }
+    ensures same_buffer { name_of writer.new ≡ name_of writer.old }
+{
+    writer.put_u64(total)?;
+    writer.put_u64(free)?;
+    writer.put_u64(available)
+}
+
 /// Writes the results of FSSTAT (section 3.3.18).
 #[tactic(auto, using(crate::proofs::Sizes::sizes), unfolding(crate::specs::Results::fsstat_ok))]
 pub(crate) fn put_fsstat(writer: &mut Writer<'_>, r: &FsStatOk) -> Result<(), NoRoom>
@@ -151,12 +164,8 @@ pub(crate) fn put_fsstat(writer: &mut Writer<'_>, r: &FsStatOk) -> Result<(), No
 {
     put_ok(writer)?;
     put_post_op_attr(writer, &r.root)?;
-    writer.put_u64(r.total_bytes)?;
-    writer.put_u64(r.free_bytes)?;
-    writer.put_u64(r.available_bytes)?;
-    writer.put_u64(r.total_files)?;
-    writer.put_u64(r.free_files)?;
-    writer.put_u64(r.available_files)?;
+    put_space(writer, r.total_bytes, r.free_bytes, r.available_bytes)?;
+    put_space(writer, r.total_files, r.free_files, r.available_files)?;
     writer.put_u32(r.invariant_seconds)
 }
 
@@ -166,6 +175,38 @@ pub(crate) fn fsstat_length(r: &FsStatOk) -> usize
     ensures { result ≡ length (encoded.fsstat_ok r.now) }
 {
     post_op_attr_length(&r.root) + 52
+}
+
+/// Writes three sizes of a call: the greatest, the one preferred, and the one that it is best a multiple of, 12 bytes.
+#[tactic(auto, using(crate::proofs::Sizes::sizes))]
+fn put_transfer(
+    writer: &mut Writer<'_>,
+    most: u32,
+    preferred: u32,
+    multiple: u32,
+) -> Result<(), NoRoom>
+    ensures fits { 12 ≤ room_of writer.old → IsOk result }
+    ensures written { OnOk result (written_of writer.new ≡ written_of writer.old ++ uint most ++ uint preferred ++ uint multiple) }
+    ensures room { OnOk result (room_of writer.new + 12 ≡ room_of writer.old) }
+    ensures same_buffer { name_of writer.new ≡ name_of writer.old }
+{
+    writer.put_u32(most)?;
+    writer.put_u32(preferred)?;
+    writer.put_u32(multiple)
+}
+
+/// Writes what FSINFO says behind the sizes of a READ and of a WRITE, 24 bytes.
+#[tactic(auto, using(crate::proofs::Sizes::sizes))]
+fn put_limits(writer: &mut Writer<'_>, r: &FsInfoOk) -> Result<(), NoRoom>
+    ensures fits { 24 ≤ room_of writer.old → IsOk result }
+    ensures written { OnOk result (written_of writer.new ≡ written_of writer.old ++ uint r.now.directory_preferred ++ uhyper r.now.max_file_size ++ nfstime3 r.now.time_delta ++ uint r.now.properties) }
+    ensures room { OnOk result (room_of writer.new + 24 ≡ room_of writer.old) }
+    ensures same_buffer { name_of writer.new ≡ name_of writer.old }
+{
+    writer.put_u32(r.directory_preferred)?;
+    writer.put_u64(r.max_file_size)?;
+    put_moment(writer, r.time_delta)?;
+    writer.put_u32(r.properties)
 }
 
 /// Writes the results of FSINFO (section 3.3.19).
@@ -178,16 +219,9 @@ pub(crate) fn put_fsinfo(writer: &mut Writer<'_>, r: &FsInfoOk) -> Result<(), No
 {
     put_ok(writer)?;
     put_post_op_attr(writer, &r.root)?;
-    writer.put_u32(r.read_max)?;
-    writer.put_u32(r.read_preferred)?;
-    writer.put_u32(r.read_multiple)?;
-    writer.put_u32(r.write_max)?;
-    writer.put_u32(r.write_preferred)?;
-    writer.put_u32(r.write_multiple)?;
-    writer.put_u32(r.directory_preferred)?;
-    writer.put_u64(r.max_file_size)?;
-    put_moment(writer, r.time_delta)?;
-    writer.put_u32(r.properties)
+    put_transfer(writer, r.read_max, r.read_preferred, r.read_multiple)?;
+    put_transfer(writer, r.write_max, r.write_preferred, r.write_multiple)?;
+    put_limits(writer, r)
 }
 
 /// How many bytes they are behind the status.
