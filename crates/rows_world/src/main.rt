@@ -39,17 +39,24 @@ fn read_row(alloc: Global, row: &str) -> Option<(Setup, Vec<u8>)> {
         }
     }
     events::end(&mut recording)?;
+    let _settings = setup.settings()?;
     Some((setup, recording))
+}
+
+/// Does what a line says. An empty line and one that begins with `#` are passed over.
+fn do_line(rt: &impl Print, alloc: Global, line: &str) -> io::Result<()> {
+    if line.is_empty() || line.starts_with('#') {
+        return Ok(());
+    }
+    match line.split_once(' ') {
+        Some((name, row)) => do_row(rt, alloc, name, row),
+        None => do_row(rt, alloc, line, ""),
+    }
 }
 
 fn main(rt: HostRuntime) -> io::Result<()> {
     for line in rt.lines(rt.alloc()) {
-        let line = line?;
-        match line.as_str().split_once(' ') {
-            Some(("#", _)) => {}
-            Some((name, row)) => do_row(&rt, rt.alloc(), name, row)?,
-            None => {}
-        }
+        do_line(&rt, rt.alloc(), line?.as_str())?;
     }
     Ok(())
 }
