@@ -5,12 +5,19 @@ use std::alloc::Global;
 
 /// The kinds of frames that go in.
 const BEGIN: u8 = 1;
+
 const BYTES: u8 = 2;
+
 const CLOSE: u8 = 3;
+
 const SET_MOMENT: u8 = 4;
+
 const STAT: u8 = 16;
+
 const RESTART: u8 = 20;
+
 const RESTART_WITHOUT_JOURNAL: u8 = 21;
+
 const END: u8 = 99;
 
 /// Puts a frame behind the others.

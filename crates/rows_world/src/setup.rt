@@ -12,6 +12,7 @@ use std::alloc::Global;
 
 /// How many calls of a site that may fail are kept, and how many bytes of them.
 const CALLS: usize = 1 << 12;
+
 const CALL_BYTES: usize = 1 << 20;
 
 /// What a row says of the site, of the settings, of the sink and of the source.
