@@ -161,7 +161,12 @@ fn ask_object<S: Site>(alloc: Global, site: &mut S, what: &str, words: &str) -> 
         }
         "get" => {
             let (seq, offset) = words.split_once(' ')?;
-            get(alloc, site, seq.parse::<u8>().ok()?, offset.parse::<u64>().ok()?)
+            get(
+                alloc,
+                site,
+                seq.parse::<u8>().ok()?,
+                offset.parse::<u64>().ok()?,
+            )
         }
         "remove" => remove(alloc, site, words.parse::<u8>().ok()?),
         _ => None,

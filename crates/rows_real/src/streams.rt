@@ -24,7 +24,8 @@ pub fn pulled(alloc: Global, words: &str) -> Option<String> {
     let mut buf = *b"--";
     let mut all = String::from_str(alloc, "reads").ok()?;
     for _ in 0..count.parse::<u32>().ok()? {
-        all.push_str(pull(alloc, &mut source, &mut buf)?.as_str()).ok()?;
+        all.push_str(pull(alloc, &mut source, &mut buf)?.as_str())
+            .ok()?;
     }
     Some(all)
 }
