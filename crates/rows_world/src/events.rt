@@ -1,0 +1,104 @@
+//! What happens to a world, as the frames of a recording.
+
+use crate::words::bytes_of;
+use std::alloc::Global;
+
+/// The kinds of frames that go in.
+const BEGIN: u8 = 1;
+
+const BYTES: u8 = 2;
+
+const CLOSE: u8 = 3;
+
+const SET_MOMENT: u8 = 4;
+
+const STAT: u8 = 16;
+
+const RESTART: u8 = 20;
+
+const RESTART_WITHOUT_JOURNAL: u8 = 21;
+
+const END: u8 = 99;
+
+/// Puts a frame behind the others.
+fn put_frame(recording: &mut Vec<u8>, kind: u8, session: u32, payload: &[u8]) -> Option<()> {
+    let length = u32::try_from(payload.len()).ok()?;
+    recording.push(kind).ok()?;
+    recording.extend_from_slice(&session.to_be_bytes()).ok()?;
+    recording.extend_from_slice(&length.to_be_bytes()).ok()?;
+    recording.extend_from_slice(payload).ok()
+}
+
+/// Puts the frame that ends a recording behind the others.
+pub fn end(recording: &mut Vec<u8>) -> Option<()> {
+    put_frame(recording, END, 0, &[])
+}
+
+/// Puts the frame of a moment: `SECONDS:NANOSECONDS`.
+fn put_moment(recording: &mut Vec<u8>, rest: &str) -> Option<()> {
+    let (seconds, nanos) = rest.split_once(':')?;
+    let seconds = seconds.parse::<u32>().ok()?;
+    let nanos = nanos.parse::<u32>().ok()?;
+    let moment = u64::from(seconds) << 32 | u64::from(nanos);
+    put_frame(recording, SET_MOMENT, 0, &moment.to_be_bytes())
+}
+
+/// Puts the next bytes of a session's stream, in one frame: `SESSION:BYTES`.
+fn put_bytes(alloc: Global, recording: &mut Vec<u8>, rest: &str) -> Option<()> {
+    let (session, bytes) = rest.split_once(':')?;
+    let bytes = bytes_of(alloc, bytes)?;
+    put_frame(recording, BYTES, session.parse::<u32>().ok()?, &bytes)
+}
+
+/// Puts bytes in pieces, each of them for these sessions one after the other: `SESSION,SESSION:SIZE:BYTES`.
+fn put_pieces(alloc: Global, recording: &mut Vec<u8>, rest: &str) -> Option<()> {
+    let (sessions, rest) = rest.split_once(':')?;
+    let (size, bytes) = rest.split_once(':')?;
+    let size = size.parse::<usize>().ok()?;
+    if size == 0 {
+        return None;
+    }
+    let bytes = bytes_of(alloc, bytes)?;
+    for piece in bytes.chunks(size) {
+        put_piece(recording, sessions, piece)?;
+    }
+    Some(())
+}
+
+/// Puts a piece for these sessions, one after the other.
+fn put_piece(recording: &mut Vec<u8>, sessions: &str, piece: &[u8]) -> Option<()> {
+    for session in sessions.split(',') {
+        put_frame(recording, BYTES, session.parse::<u32>().ok()?, piece)?;
+    }
+    Some(())
+}
+
+/// Puts bytes into the recording as they are.
+fn put_raw(alloc: Global, recording: &mut Vec<u8>, rest: &str) -> Option<()> {
+    let bytes = bytes_of(alloc, rest)?;
+    recording.extend_from_slice(&bytes).ok()
+}
+
+/// Puts what happens behind what happened before.
+pub fn put(alloc: Global, recording: &mut Vec<u8>, word: &str) -> Option<()> {
+    match word.split_once(':') {
+        Some(("begin", session)) => put_frame(recording, BEGIN, session.parse::<u32>().ok()?, &[]),
+        Some(("close", session)) => put_frame(recording, CLOSE, session.parse::<u32>().ok()?, &[]),
+        Some(("bytes", rest)) => put_bytes(alloc, recording, rest),
+        Some(("pieces", rest)) => put_pieces(alloc, recording, rest),
+        Some(("moment", rest)) => put_moment(recording, rest),
+        Some(("raw", rest)) => put_raw(alloc, recording, rest),
+        Some(_) => None,
+        None => put_plain(recording, word),
+    }
+}
+
+/// Puts a frame that has neither a session nor a payload.
+fn put_plain(recording: &mut Vec<u8>, word: &str) -> Option<()> {
+    match word {
+        "stat" => put_frame(recording, STAT, 0, &[]),
+        "restart" => put_frame(recording, RESTART, 0, &[]),
+        "restart-without-journal" => put_frame(recording, RESTART_WITHOUT_JOURNAL, 0, &[]),
+        _ => None,
+    }
+}

@@ -1,0 +1,107 @@
+//! The frames that a world answers, as text.
+
+use std::alloc::Global;
+use std::io;
+
+/// The bytes of a frame's header: its kind, its session and the length of its payload.
+const HEADER: usize = 9;
+
+/// A frame that was written, and what is behind it.
+#[derive(Clone, Copy)]
+struct Shown<'a> {
+    kind: u8,
+    session: u32,
+    payload: &'a [u8],
+    rest: &'a [u8],
+}
+
+/// The number that four bytes at a place encode, or 0 where they aren't there.
+fn number_at(bytes: &[u8], at: usize) -> u32 {
+    match bytes.get(at..) {
+        Some([a, b, c, d, ..]) => u32::from_be_bytes([*a, *b, *c, *d]),
+        _ => 0,
+    }
+}
+
+/// The first frame, where it is whole.
+fn first_frame(bytes: &[u8]) -> Option<Shown<'_>> {
+    if bytes.len() < HEADER {
+        return None;
+    }
+    let (header, behind) = bytes.split_at(HEADER);
+    let length = number_at(header, 5) as usize;
+    if behind.len() < length {
+        return None;
+    }
+    let (payload, rest) = behind.split_at(length);
+    Some(Shown {
+        kind: header[0],
+        session: number_at(header, 1),
+        payload,
+        rest,
+    })
+}
+
+/// Bytes in hexadecimal, `-` for none.
+fn hex_of(alloc: Global, bytes: &[u8]) -> io::Result<String> {
+    let text = if bytes.is_empty() {
+        String::from_str(alloc, "-")?
+    } else {
+        hex::encode(alloc, bytes)?
+    };
+    Ok(text)
+}
+
+/// Prints a frame: its kind, its session, its payload, and behind `=` the payload's numbers.
+fn print_frame(rt: &impl Print, alloc: Global, name: &str, shown: &Shown<'_>) -> io::Result<()> {
+    let payload = shown.payload;
+    let text = hex_of(alloc, payload)?;
+    print!(rt; "{name} {} {} {text}", shown.kind, shown.session)?;
+    match shown.kind {
+        2 => print_reply(rt, payload)?,
+        16 => print_longs(rt, payload, 8)?,
+        19 => print_longs(rt, payload, 2)?,
+        _ => {}
+    }
+    println!(rt; "")
+}
+
+/// Prints the number of a call and the status of its results, where there are results.
+fn print_reply(rt: &impl Print, payload: &[u8]) -> io::Result<()> {
+    let call = number_at(payload, 4);
+    if payload.len() < 32 {
+        return print!(rt; " = call {call}");
+    }
+    let status = number_at(payload, 28);
+    print!(rt; " = call {call} status {status}")
+}
+
+/// Prints this many numbers of eight bytes each.
+fn print_longs(rt: &impl Print, payload: &[u8], count: usize) -> io::Result<()> {
+    print!(rt; " =")?;
+    for chunk in payload.chunks(8).take(count) {
+        let high = u64::from(number_at(chunk, 0));
+        let number = high << 32 | u64::from(number_at(chunk, 4));
+        print!(rt; " {number}")?;
+    }
+    Ok(())
+}
+
+/// Prints the frames that were written, and behind them the bytes of one that is not whole.
+pub fn print_frames(rt: &impl Print, alloc: Global, name: &str, written: &[u8]) -> io::Result<()> {
+    let mut left = written;
+    for _ in 0..written.len() {
+        match first_frame(left) {
+            Some(shown) => {
+                print_frame(rt, alloc, name, &shown)?;
+                left = shown.rest;
+            }
+            None => break,
+        }
+    }
+    if left.is_empty() {
+        return Ok(());
+    }
+    let text = hex_of(alloc, left)?;
+    println!(rt; "{name} cut {text}")
+}
