@@ -32,7 +32,11 @@ pub fn answer(alloc: Global, usage: &mut Usage, args: &[&str]) -> Result<String,
 /// How many names there are, and how many bytes are in use in each directory.
 fn state(alloc: Global, usage: &Usage) -> Result<String, AllocError> {
     let names = usage.len();
-    let word = if usage.is_empty() { "empty" } else { "not empty" };
+    let word = if usage.is_empty() {
+        "empty"
+    } else {
+        "not empty"
+    };
     let proxy = usage.total(Dir::Proxy);
     let cleaner = usage.total(Dir::Cleaner);
     format!(in alloc; "{names} names, {word}, proxy {proxy}, cleaner {cleaner}")

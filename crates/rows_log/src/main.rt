@@ -61,11 +61,7 @@ fn print(rt: &impl Print, name: &str, answered: Result<String, Fault>) -> io::Re
 }
 
 /// Answers a line. Empty ones and headings are passed over.
-fn answer_line(
-    rt: &(impl Print + AllocGlobal),
-    bench: &mut Bench,
-    line: &str,
-) -> io::Result<()> {
+fn answer_line(rt: &(impl Print + AllocGlobal), bench: &mut Bench, line: &str) -> io::Result<()> {
     let alloc = rt.alloc();
     if line.is_empty() || line.starts_with('#') {
         return Ok(());

@@ -159,7 +159,11 @@ pub fn cred(alloc: Global, args: &[&str]) -> Result<String, Fault> {
     let uid = cred.uid;
     let gid = cred.gid;
     let gids = cred.gids.as_slice();
-    let word = if cred.gids.is_full() { "full" } else { "not full" };
+    let word = if cred.gids.is_full() {
+        "full"
+    } else {
+        "not full"
+    };
     Ok(format!(in alloc; "uid {uid} gid {gid} gids {gids:?} {word}")?)
 }
 

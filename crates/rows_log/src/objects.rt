@@ -117,7 +117,11 @@ fn begin(alloc: Global, bench: &mut Bench, name: &str) -> Result<String, Fault> 
 /// The name of the object that is being made, and whether it has what it must have.
 fn state(alloc: Global, builder: &Builder) -> Result<String, AllocError> {
     let name = text::name(alloc, builder.name())?;
-    let word = if builder.is_complete() { "complete" } else { "not complete" };
+    let word = if builder.is_complete() {
+        "complete"
+    } else {
+        "not complete"
+    };
     format!(in alloc; "{name} is {word}")
 }
 
@@ -189,8 +193,12 @@ fn finish(alloc: Global, bench: &mut Bench, row: &str) -> Result<String, Fault> 
     let shown = shown(alloc, bytes.as_slice())?;
     let bytes = bytes.into_vec();
     let room = bytes.capacity();
+    let long = bytes.len() > PRINTED;
     bench.kept.put(alloc, row, bytes)?;
-    Ok(format!(in alloc; "{shown} in room for {room}")?)
+    if long {
+        return Ok(format!(in alloc; "{shown} in room for {room}")?);
+    }
+    Ok(shown)
 }
 
 /// The bytes of an object, or only how many where they are too many to print.

@@ -42,7 +42,11 @@ fn begin(alloc: Global, bench: &mut Bench, number: u64) -> Result<String, Fault>
 fn state(alloc: Global, page: &Page) -> Result<String, AllocError> {
     let number = page.number();
     let slots = page.len();
-    let word = if page.is_empty() { "empty" } else { "not empty" };
+    let word = if page.is_empty() {
+        "empty"
+    } else {
+        "not empty"
+    };
     format!(in alloc; "page {number} of {slots}, {word}")
 }
 

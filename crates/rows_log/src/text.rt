@@ -137,18 +137,28 @@ fn owner(alloc: Global, a: &Attributes) -> Result<String, AllocError> {
 
 fn times(alloc: Global, a: &Attributes) -> Result<String, AllocError> {
     let mut text = String::new(alloc);
-    push_moment(&mut text, "atime ", a.times.atime.seconds, a.times.atime.nanos)?;
-    push_moment(&mut text, " mtime ", a.times.mtime.seconds, a.times.mtime.nanos)?;
-    push_moment(&mut text, " ctime ", a.times.ctime.seconds, a.times.ctime.nanos)?;
+    push_moment(
+        &mut text,
+        "atime ",
+        a.times.atime.seconds,
+        a.times.atime.nanos,
+    )?;
+    push_moment(
+        &mut text,
+        " mtime ",
+        a.times.mtime.seconds,
+        a.times.mtime.nanos,
+    )?;
+    push_moment(
+        &mut text,
+        " ctime ",
+        a.times.ctime.seconds,
+        a.times.ctime.nanos,
+    )?;
     Ok(text)
 }
 
-fn push_moment(
-    text: &mut String,
-    word: &str,
-    seconds: u32,
-    nanos: u32,
-) -> Result<(), AllocError> {
+fn push_moment(text: &mut String, word: &str, seconds: u32, nanos: u32) -> Result<(), AllocError> {
     write!(text, "{word}{seconds}.{nanos}")
 }
 
