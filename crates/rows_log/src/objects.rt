@@ -147,15 +147,27 @@ fn refusal(builder: &Builder, item: &Item) -> Option<&'static str>
     None
 }
 
-/// Adds an item so many times, and says where the last one lies.
+/// Adds the item of some bytes so many times, and says where the last one lies.
 fn add(alloc: Global, bench: &mut Bench, word: &str, count: u64) -> Result<String, Fault> {
     let item = item_of(alloc, &bytes_of(alloc, &bench.kept, word)?)?;
     let Some(builder) = &mut bench.builder else {
         return Err(Fault::Row);
     };
+    add_copies(alloc, builder, &item, count)
+}
+
+/// Adds an item so many times, and says where the last one lies.
+fn add_copies(
+    alloc: Global,
+    builder: &mut Builder,
+    item: &Item,
+    count: u64,
+) -> Result<String, Fault>
+    requires { IsItem item.now }
+{
     let mut text = String::new(alloc);
     for _ in 0..count {
-        text = add_one(alloc, builder, &item)?;
+        text = add_one(alloc, builder, item)?;
     }
     Ok(text)
 }
