@@ -23,13 +23,12 @@ impl<'a> Words<'a> {
 
     /// Takes a word.
     pub fn word(&mut self) -> Result<&'a str, Fault> {
-        match self.words.split_first() {
-            Some((first, rest)) => {
-                self.words = rest;
-                Ok(*first)
-            }
-            None => Err(Fault::Unread),
+        let words = self.words;
+        if words.is_empty() {
+            return Err(Fault::Unread);
         }
+        self.words = &words[1..];
+        Ok(words[0])
     }
 
     /// Takes bytes.
