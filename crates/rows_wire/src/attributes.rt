@@ -1,31 +1,30 @@
 //! Attributes in a row, field by field in the order of RFC 1813.
 
-use crate::fault::Fault;
 use crate::words::Words;
 use sky_base::{Attr, Device, Kind, Moment};
 use sky_nfs::{Handle, NfsStatus, Refused, WccAttr, WccData};
 
 /// `SECONDS NANOSECONDS`.
-pub fn moment(words: &mut Words<'_>) -> Result<Moment, Fault> {
+pub fn moment(words: &mut Words<'_>) -> Option<Moment> {
     let seconds = words.int()?;
     let nanos = words.int()?;
-    Ok(Moment { seconds, nanos })
+    Some(Moment { seconds, nanos })
 }
 
 /// The kind of an object by its number (`ftype3`).
-fn kind(words: &mut Words<'_>) -> Result<Kind, Fault> {
+fn kind(words: &mut Words<'_>) -> Option<Kind> {
     match words.int()? {
-        1 => Ok(Kind::Regular),
-        2 => Ok(Kind::Directory),
-        5 => Ok(Kind::SymbolicLink),
-        _ => Err(Fault::Unread),
+        1 => Some(Kind::Regular),
+        2 => Some(Kind::Directory),
+        5 => Some(Kind::SymbolicLink),
+        _ => None,
     }
 }
 
-fn device(words: &mut Words<'_>) -> Result<Device, Fault> {
+fn device(words: &mut Words<'_>) -> Option<Device> {
     let major = words.int()?;
     let minor = words.int()?;
-    Ok(Device { major, minor })
+    Some(Device { major, minor })
 }
 
 /// What the fields of `fattr3` begin with.
@@ -38,8 +37,8 @@ struct Beginning {
     gid: u32,
 }
 
-fn take_beginning(words: &mut Words<'_>) -> Result<Beginning, Fault> {
-    Ok(Beginning {
+fn take_beginning(words: &mut Words<'_>) -> Option<Beginning> {
+    Some(Beginning {
         kind: kind(words)?,
         mode: words.int()?,
         nlink: words.int()?,
@@ -50,9 +49,9 @@ fn take_beginning(words: &mut Words<'_>) -> Result<Beginning, Fault> {
 
 /// The 17 numbers of `fattr3`: kind, mode, links, user, group, size, used, two of the device, file system, fileid, and
 /// three moments.
-pub fn attributes(words: &mut Words<'_>) -> Result<Attr, Fault> {
+pub fn attributes(words: &mut Words<'_>) -> Option<Attr> {
     let owned = take_beginning(words)?;
-    Ok(Attr {
+    Some(Attr {
         kind: owned.kind,
         mode: owned.mode,
         nlink: owned.nlink,
@@ -70,80 +69,80 @@ pub fn attributes(words: &mut Words<'_>) -> Result<Attr, Fault> {
 }
 
 /// `told` and attributes, or `-` (`post_op_attr`).
-pub fn told(words: &mut Words<'_>) -> Result<Option<Attr>, Fault> {
+pub fn told(words: &mut Words<'_>) -> Option<Option<Attr>> {
     match words.word()? {
-        "told" => Ok(Some(attributes(words)?)),
-        "-" => Ok(None),
-        _ => Err(Fault::Unread),
+        "told" => Some(Some(attributes(words)?)),
+        "-" => Some(None),
+        _ => None,
     }
 }
 
 /// `before SIZE MTIME CTIME`, or `-` (`pre_op_attr`).
-fn before(words: &mut Words<'_>) -> Result<Option<WccAttr>, Fault> {
+fn before(words: &mut Words<'_>) -> Option<Option<WccAttr>> {
     match words.word()? {
-        "before" => Ok(Some(WccAttr {
+        "before" => Some(Some(WccAttr {
             size: words.long()?,
             mtime: moment(words)?,
             ctime: moment(words)?,
         })),
-        "-" => Ok(None),
-        _ => Err(Fault::Unread),
+        "-" => Some(None),
+        _ => None,
     }
 }
 
 /// An object before and after a call (`wcc_data`).
-pub fn change(words: &mut Words<'_>) -> Result<WccData, Fault> {
+pub fn change(words: &mut Words<'_>) -> Option<WccData> {
     let before = before(words)?;
     let after = told(words)?;
-    Ok(WccData { before, after })
+    Some(WccData { before, after })
 }
 
 /// `VOLUME FILEID`.
-pub fn handle(words: &mut Words<'_>) -> Result<Handle, Fault> {
+pub fn handle(words: &mut Words<'_>) -> Option<Handle> {
     let volume = words.long()?;
     let fileid = words.long()?;
-    Ok(Handle { volume, fileid })
+    Some(Handle { volume, fileid })
 }
 
 /// The status of this name, which is the RFC's behind `NFS3ERR_`, in small letters and without `_`.
-pub fn status(name: &str) -> Result<NfsStatus, Fault> {
+pub fn status(name: &str) -> Option<NfsStatus> {
     match name {
-        "perm" => Ok(NfsStatus::Perm),
-        "noent" => Ok(NfsStatus::NoEnt),
-        "io" => Ok(NfsStatus::Io),
-        "acces" => Ok(NfsStatus::Acces),
-        "exist" => Ok(NfsStatus::Exist),
-        "notdir" => Ok(NfsStatus::NotDir),
-        "isdir" => Ok(NfsStatus::IsDir),
-        "inval" => Ok(NfsStatus::Inval),
-        "fbig" => Ok(NfsStatus::FBig),
-        "nospc" => Ok(NfsStatus::NoSpc),
-        "mlink" => Ok(NfsStatus::MLink),
-        "nametoolong" => Ok(NfsStatus::NameTooLong),
-        "notempty" => Ok(NfsStatus::NotEmpty),
-        "stale" => Ok(NfsStatus::Stale),
-        "badhandle" => Ok(NfsStatus::BadHandle),
-        "notsync" => Ok(NfsStatus::NotSync),
-        "badcookie" => Ok(NfsStatus::BadCookie),
-        "notsupp" => Ok(NfsStatus::NotSupp),
-        "toosmall" => Ok(NfsStatus::TooSmall),
-        "serverfault" => Ok(NfsStatus::ServerFault),
-        "badtype" => Ok(NfsStatus::BadType),
-        "jukebox" => Ok(NfsStatus::Jukebox),
-        _ => Err(Fault::Unread),
+        "perm" => Some(NfsStatus::Perm),
+        "noent" => Some(NfsStatus::NoEnt),
+        "io" => Some(NfsStatus::Io),
+        "acces" => Some(NfsStatus::Acces),
+        "exist" => Some(NfsStatus::Exist),
+        "notdir" => Some(NfsStatus::NotDir),
+        "isdir" => Some(NfsStatus::IsDir),
+        "inval" => Some(NfsStatus::Inval),
+        "fbig" => Some(NfsStatus::FBig),
+        "nospc" => Some(NfsStatus::NoSpc),
+        "mlink" => Some(NfsStatus::MLink),
+        "nametoolong" => Some(NfsStatus::NameTooLong),
+        "notempty" => Some(NfsStatus::NotEmpty),
+        "stale" => Some(NfsStatus::Stale),
+        "badhandle" => Some(NfsStatus::BadHandle),
+        "notsync" => Some(NfsStatus::NotSync),
+        "badcookie" => Some(NfsStatus::BadCookie),
+        "notsupp" => Some(NfsStatus::NotSupp),
+        "toosmall" => Some(NfsStatus::TooSmall),
+        "serverfault" => Some(NfsStatus::ServerFault),
+        "badtype" => Some(NfsStatus::BadType),
+        "jukebox" => Some(NfsStatus::Jukebox),
+        _ => None,
     }
 }
 
 /// A refusal with this status and an object's attributes.
-pub fn refused(name: &str, words: &mut Words<'_>) -> Result<Refused<Option<Attr>>, Fault> {
+pub fn refused(name: &str, words: &mut Words<'_>) -> Option<Refused<Option<Attr>>> {
     let status = status(name)?;
     let attributes = told(words)?;
-    Ok(Refused { status, attributes })
+    Some(Refused { status, attributes })
 }
 
 /// A refusal with this status and an object before and after.
-pub fn refused_change(name: &str, words: &mut Words<'_>) -> Result<Refused<WccData>, Fault> {
+pub fn refused_change(name: &str, words: &mut Words<'_>) -> Option<Refused<WccData>> {
     let status = status(name)?;
     let attributes = change(words)?;
-    Ok(Refused { status, attributes })
+    Some(Refused { status, attributes })
 }

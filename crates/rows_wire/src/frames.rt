@@ -1,6 +1,5 @@
 //! The frames of a recording, read and written.
 
-use crate::fault::Fault;
 use crate::out_frames::{out, reply};
 use crate::text::{add_word, shown};
 use crate::words::Words;
@@ -31,32 +30,37 @@ impl Source for Trickle {
 }
 
 /// `read BYTES FAILING-READ..`, `out ROOM FAILING-WRITES FRAME..` or `reply ROOM FAILING-WRITES SESSION BUFFER`.
-pub fn asked(alloc: Global, words: &mut Words<'_>) -> Result<String, Fault> {
+pub fn asked(alloc: Global, words: &mut Words<'_>) -> Option<String> {
     match words.word()? {
         "read" => read(alloc, words),
         "out" => out(alloc, words),
         "reply" => reply(alloc, words),
-        _ => Err(Fault::Unread),
+        _ => None,
     }
 }
 
 /// Each frame that is read, with the bytes that it takes, up to the end or to a fault; and the bytes that are left then. The
 /// source gives a byte a read; the reads whose numbers are told fail.
-fn read(alloc: Global, words: &mut Words<'_>) -> Result<String, Fault> {
-    let bytes = words.bytes(alloc)?;
-    let fail = words.longs(alloc)?;
-    let mut source = Trickle {
-        source: MemSource::new(bytes, fail),
-    };
-    let mut text = frames_read(alloc, &mut source)?;
-    add_word(&mut text, "left")?;
-    let rest = rest_of(alloc, &mut source)?;
-    add_word(&mut text, shown(alloc, &rest)?.as_str())?;
-    Ok(text)
+fn read(alloc: Global, words: &mut Words<'_>) -> Option<String> {
+    let mut source = source_of(alloc, words)?;
+    told(alloc, &mut source)
 }
 
-fn frames_read(alloc: Global, source: &mut Trickle) -> Result<String, Fault> {
-    let mut buf = FrameBuf::new(alloc)?;
+fn source_of(alloc: Global, words: &mut Words<'_>) -> Option<Trickle> {
+    let bytes = words.bytes(alloc)?;
+    let fail = words.longs(alloc)?;
+    let source = MemSource::new(bytes, fail);
+    Some(Trickle { source })
+}
+
+fn told(alloc: Global, source: &mut Trickle) -> Option<String> {
+    let text = frames_read(alloc, source)?;
+    let rest = rest_shown(alloc, source)?;
+    format!(in alloc; "{text} left {rest}").ok()
+}
+
+fn frames_read(alloc: Global, source: &mut Trickle) -> Option<String> {
+    let mut buf = FrameBuf::new(alloc).ok()?;
     let mut text = String::new(alloc);
     for _ in 0..MOST {
         let (word, more) = one_read(alloc, source, &mut buf)?;
@@ -65,60 +69,63 @@ fn frames_read(alloc: Global, source: &mut Trickle) -> Result<String, Fault> {
             break;
         }
     }
-    Ok(text)
+    Some(text)
 }
 
 /// The next frame, or the fault; and whether more frames are to be read.
-fn one_read(
-    alloc: Global,
-    source: &mut Trickle,
-    buf: &mut FrameBuf,
-) -> Result<(String, bool), Fault> {
+fn one_read(alloc: Global, source: &mut Trickle, buf: &mut FrameBuf) -> Option<(String, bool)> {
     match read_frame(source, buf) {
         Ok(frame) => {
             let length = frame.length();
-            let word = frame_shown(alloc, &frame)?;
-            let more = !matches!(frame, Frame::End);
-            Ok((format!(in alloc; "{word}/{length}")?, more))
+            with_length(alloc, &frame, length)
         }
-        Err(fault) => Ok((fault_shown(alloc, fault)?, false)),
+        Err(fault) => fault_shown(alloc, fault),
     }
 }
 
-fn fault_shown(alloc: Global, fault: FrameFault) -> Result<String, Fault> {
-    Ok(format!(in alloc; "{fault:?}")?)
+fn with_length(alloc: Global, frame: &Frame<'_>, length: u64) -> Option<(String, bool)> {
+    let word = frame_shown(alloc, frame)?;
+    let text = format!(in alloc; "{word}/{length}").ok()?;
+    Some((text, !matches!(frame, Frame::End)))
 }
 
-fn frame_shown(alloc: Global, frame: &Frame<'_>) -> Result<String, Fault> {
-    let text = match frame {
-        Frame::Begin { session } => format!(in alloc; "begin:{session}")?,
-        Frame::Bytes { session, payload } => {
-            let payload = shown(alloc, payload)?;
-            format!(in alloc; "bytes:{session}:{payload}")?
-        }
-        Frame::Close { session } => format!(in alloc; "close:{session}")?,
-        Frame::SetMoment(moment) => moment_shown(alloc, *moment)?,
-        Frame::Stat => format!(in alloc; "stat")?,
-        Frame::Restart => format!(in alloc; "restart")?,
-        Frame::RestartWithoutJournal => format!(in alloc; "restart-without-journal")?,
-        Frame::End => format!(in alloc; "end")?,
-    };
-    Ok(text)
+fn fault_shown(alloc: Global, fault: FrameFault) -> Option<(String, bool)> {
+    let text = format!(in alloc; "{fault:?}").ok()?;
+    Some((text, false))
 }
 
-fn moment_shown(alloc: Global, moment: Moment) -> Result<String, Fault> {
+fn frame_shown(alloc: Global, frame: &Frame<'_>) -> Option<String> {
+    match frame {
+        Frame::Begin { session } => format!(in alloc; "begin:{session}").ok(),
+        Frame::Bytes { session, payload } => bytes_shown(alloc, *session, payload),
+        Frame::Close { session } => format!(in alloc; "close:{session}").ok(),
+        Frame::SetMoment(moment) => moment_shown(alloc, *moment),
+        Frame::Stat => String::from_str(alloc, "stat").ok(),
+        Frame::Restart => String::from_str(alloc, "restart").ok(),
+        Frame::RestartWithoutJournal => String::from_str(alloc, "restart-without-journal").ok(),
+        Frame::End => String::from_str(alloc, "end").ok(),
+    }
+}
+
+fn bytes_shown(alloc: Global, session: u32, payload: &[u8]) -> Option<String> {
+    let payload = shown(alloc, payload)?;
+    format!(in alloc; "bytes:{session}:{payload}").ok()
+}
+
+fn moment_shown(alloc: Global, moment: Moment) -> Option<String> {
     let Moment { seconds, nanos } = moment;
-    Ok(format!(in alloc; "moment:{seconds}:{nanos}")?)
+    format!(in alloc; "moment:{seconds}:{nanos}").ok()
 }
 
 /// The bytes that a source still has.
-fn rest_of(alloc: Global, source: &mut Trickle) -> Result<Vec<u8>, Fault> {
-    let mut bytes = Vec::new(alloc);
-    for _ in 0..MOST {
-        let mut buf = [0; 1];
-        if let Ok(1) = source.read(&mut buf) {
-            bytes.push(buf[0])?;
+fn rest_shown(alloc: Global, source: &mut Trickle) -> Option<String> {
+    let mut buf = [0; MOST as usize];
+    let mut count = 0;
+    while count < buf.len() {
+        match source.read(&mut buf[count..]) {
+            Ok(1) => count += 1,
+            _ => break,
         }
     }
-    Ok(bytes)
+    shown(alloc, &buf[..count])
 }

@@ -1,7 +1,6 @@
 //! Pages of directories in a row.
 
 use crate::attributes::{handle, told};
-use crate::fault::Fault;
 use crate::words::Words;
 use sky_nfs::{
     Answer, Bytes, ListedEntries, ListedEntriesPlus, ListedEntry, ListedEntryPlus, ReadDirOk,
@@ -10,11 +9,11 @@ use sky_nfs::{
 use std::alloc::Global;
 
 /// `FILEID NAME COOKIE`.
-fn entry(alloc: Global, words: &mut Words<'_>) -> Result<ListedEntry, Fault> {
+fn entry(alloc: Global, words: &mut Words<'_>) -> Option<ListedEntry> {
     let fileid = words.long()?;
     let name = Bytes::new(words.bytes(alloc)?);
     let cookie = words.long()?;
-    Ok(ListedEntry {
+    Some(ListedEntry {
         fileid,
         name,
         cookie,
@@ -22,11 +21,11 @@ fn entry(alloc: Global, words: &mut Words<'_>) -> Result<ListedEntry, Fault> {
 }
 
 /// An entry, its attributes and its handle.
-fn entry_plus(alloc: Global, words: &mut Words<'_>) -> Result<ListedEntryPlus, Fault> {
+fn entry_plus(alloc: Global, words: &mut Words<'_>) -> Option<ListedEntryPlus> {
     let entry = entry(alloc, words)?;
     let attributes = told(words)?;
     let handle = handle(words)?;
-    Ok(ListedEntryPlus {
+    Some(ListedEntryPlus {
         entry,
         attributes,
         handle,
@@ -34,15 +33,15 @@ fn entry_plus(alloc: Global, words: &mut Words<'_>) -> Result<ListedEntryPlus, F
 }
 
 /// The attributes, whether the listing ends, how many entries there are, and these.
-pub fn readdir(alloc: Global, words: &mut Words<'_>) -> Result<Answer, Fault> {
+pub fn readdir(alloc: Global, words: &mut Words<'_>) -> Option<Answer> {
     let directory = told(words)?;
     let eof = words.truth()?;
     let mut entries = Vec::new(alloc);
     for _ in 0..words.int()? {
-        entries.push(entry(alloc, words)?)?;
+        entries.push(entry(alloc, words)?).ok()?;
     }
     let entries = ListedEntries::new(entries);
-    Ok(Answer::ReadDir(Ok(ReadDirOk {
+    Some(Answer::ReadDir(Ok(ReadDirOk {
         directory,
         entries,
         eof,
@@ -50,15 +49,15 @@ pub fn readdir(alloc: Global, words: &mut Words<'_>) -> Result<Answer, Fault> {
 }
 
 /// The same with attributes and handles.
-pub fn readdirplus(alloc: Global, words: &mut Words<'_>) -> Result<Answer, Fault> {
+pub fn readdirplus(alloc: Global, words: &mut Words<'_>) -> Option<Answer> {
     let directory = told(words)?;
     let eof = words.truth()?;
     let mut entries = Vec::new(alloc);
     for _ in 0..words.int()? {
-        entries.push(entry_plus(alloc, words)?)?;
+        entries.push(entry_plus(alloc, words)?).ok()?;
     }
     let entries = ListedEntriesPlus::new(entries);
-    Ok(Answer::ReadDirPlus(Ok(ReadDirPlusOk {
+    Some(Answer::ReadDirPlus(Ok(ReadDirPlusOk {
         directory,
         entries,
         eof,

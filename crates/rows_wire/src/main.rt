@@ -9,7 +9,6 @@
 mod answers;
 mod args;
 mod attributes;
-mod fault;
 mod frames;
 mod listings;
 mod mount;
@@ -23,12 +22,12 @@ mod text;
 mod words;
 mod xdr;
 
-use crate::fault::Fault;
 use crate::words::Words;
 use std::alloc::Global;
+use std::io;
 
 /// What the subject of a row answers.
-fn asked(alloc: Global, words: &mut Words<'_>) -> Result<String, Fault> {
+fn asked(alloc: Global, words: &mut Words<'_>) -> Option<String> {
     match words.word()? {
         "xdr" => xdr::asked(alloc, words),
         "record" => record::asked(alloc, words),
@@ -38,28 +37,28 @@ fn asked(alloc: Global, words: &mut Words<'_>) -> Result<String, Fault> {
         "answer" => answers::asked(alloc, words),
         "frames" => frames::asked(alloc, words),
         "settings" => settings::asked(alloc, words),
-        _ => Err(Fault::Unread),
+        _ => None,
     }
 }
 
-/// The line that is printed for a row.
-fn answered(alloc: Global, line: &str) -> Result<String, Fault> {
-    let parts: Vec<&str> = line.split_whitespace().collect(alloc)?;
+/// The line that is printed for a row. An empty line has none.
+fn answered(alloc: Global, line: &str) -> Option<String> {
+    let parts: Vec<&str> = line.split_whitespace().collect(alloc).ok()?;
     let mut words = Words::new(&parts);
     let name = words.word()?;
     match asked(alloc, &mut words) {
-        Ok(text) => Ok(format!(in alloc; "{name} {text}")?),
-        Err(Fault::Unread) => Ok(format!(in alloc; "{name} cannot read this row")?),
-        Err(Fault::Memory) => Err(Fault::Memory),
+        Some(text) => format!(in alloc; "{name} {text}").ok(),
+        None => format!(in alloc; "{name} cannot read this row").ok(),
     }
 }
 
-fn main(rt: HostRuntime) -> anyhow::Result<()> {
+fn main(rt: HostRuntime) -> io::Result<()> {
     for line in rt.lines(rt.alloc()) {
         let line = line?;
-        if !line.is_empty() && !line.starts_with('#') {
-            let text = answered(rt.alloc(), line.as_str())?;
-            println!(rt; "{text}")?;
+        if !line.starts_with('#') {
+            if let Some(text) = answered(rt.alloc(), line.as_str()) {
+                println!(rt; "{text}")?;
+            }
         }
     }
     Ok(())

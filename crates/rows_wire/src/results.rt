@@ -1,7 +1,6 @@
 //! Results in a row, field by field in the order of RFC 1813.
 
 use crate::attributes::{attributes, change, handle, moment, told};
-use crate::fault::Fault;
 use crate::listings::{readdir, readdirplus};
 use crate::words::Words;
 use sky_nfs::{
@@ -11,9 +10,9 @@ use sky_nfs::{
 use std::alloc::Global;
 
 /// The results of a procedure.
-pub fn results(alloc: Global, procedure: &str, words: &mut Words<'_>) -> Result<Answer, Fault> {
+pub fn results(alloc: Global, procedure: &str, words: &mut Words<'_>) -> Option<Answer> {
     match procedure {
-        "getattr" => Ok(Answer::GetAttr(Ok(attributes(words)?))),
+        "getattr" => Some(Answer::GetAttr(Ok(attributes(words)?))),
         "lookup" => lookup(words),
         "access" => access(words),
         "readlink" => readlink(alloc, words),
@@ -28,61 +27,61 @@ pub fn results(alloc: Global, procedure: &str, words: &mut Words<'_>) -> Result<
 }
 
 /// The results of a procedure that changes something.
-fn changes(procedure: &str, words: &mut Words<'_>) -> Result<Answer, Fault> {
+fn changes(procedure: &str, words: &mut Words<'_>) -> Option<Answer> {
     match procedure {
-        "setattr" => Ok(Answer::SetAttr(Ok(change(words)?))),
+        "setattr" => Some(Answer::SetAttr(Ok(change(words)?))),
         "write" => write(words),
-        "create" => Ok(Answer::Create(Ok(created(words)?))),
-        "mkdir" => Ok(Answer::Mkdir(Ok(created(words)?))),
-        "symlink" => Ok(Answer::Symlink(Ok(created(words)?))),
-        "remove" => Ok(Answer::Remove(Ok(change(words)?))),
-        "rmdir" => Ok(Answer::Rmdir(Ok(change(words)?))),
+        "create" => Some(Answer::Create(Ok(created(words)?))),
+        "mkdir" => Some(Answer::Mkdir(Ok(created(words)?))),
+        "symlink" => Some(Answer::Symlink(Ok(created(words)?))),
+        "remove" => Some(Answer::Remove(Ok(change(words)?))),
+        "rmdir" => Some(Answer::Rmdir(Ok(change(words)?))),
         "rename" => rename(words),
         "link" => link(words),
         "commit" => commit(words),
-        _ => Err(Fault::Unread),
+        _ => None,
     }
 }
 
 /// The handle, and the attributes of the object and of the directory.
-fn lookup(words: &mut Words<'_>) -> Result<Answer, Fault> {
+fn lookup(words: &mut Words<'_>) -> Option<Answer> {
     let handle = handle(words)?;
     let object = told(words)?;
     let directory = told(words)?;
-    Ok(Answer::Lookup(Ok(LookupOk {
+    Some(Answer::Lookup(Ok(LookupOk {
         handle,
         object,
         directory,
     })))
 }
 
-fn access(words: &mut Words<'_>) -> Result<Answer, Fault> {
+fn access(words: &mut Words<'_>) -> Option<Answer> {
     let object = told(words)?;
     let rights = words.int()?;
-    Ok(Answer::Access(Ok(AccessOk { object, rights })))
+    Some(Answer::Access(Ok(AccessOk { object, rights })))
 }
 
-fn readlink(alloc: Global, words: &mut Words<'_>) -> Result<Answer, Fault> {
+fn readlink(alloc: Global, words: &mut Words<'_>) -> Option<Answer> {
     let link = told(words)?;
     let text = Bytes::new(words.bytes(alloc)?);
-    Ok(Answer::ReadLink(Ok(ReadLinkOk { link, text })))
+    Some(Answer::ReadLink(Ok(ReadLinkOk { link, text })))
 }
 
 /// The attributes, whether the file ends, and the data.
-fn read(alloc: Global, words: &mut Words<'_>) -> Result<Answer, Fault> {
+fn read(alloc: Global, words: &mut Words<'_>) -> Option<Answer> {
     let file = told(words)?;
     let eof = words.truth()?;
     let data = Bytes::new(words.bytes(alloc)?);
-    Ok(Answer::Read(Ok(ReadOk { file, eof, data })))
+    Some(Answer::Read(Ok(ReadOk { file, eof, data })))
 }
 
 /// The file, the count, whether it is stable, and the verifier.
-fn write(words: &mut Words<'_>) -> Result<Answer, Fault> {
+fn write(words: &mut Words<'_>) -> Option<Answer> {
     let file = change(words)?;
     let count = words.int()?;
     let committed = words.truth()?;
     let verifier = words.long()?;
-    Ok(Answer::Write(Ok(WriteOk {
+    Some(Answer::Write(Ok(WriteOk {
         file,
         count,
         committed,
@@ -90,32 +89,32 @@ fn write(words: &mut Words<'_>) -> Result<Answer, Fault> {
     })))
 }
 
-fn created(words: &mut Words<'_>) -> Result<CreateOk, Fault> {
+fn created(words: &mut Words<'_>) -> Option<CreateOk> {
     let handle = handle(words)?;
     let object = told(words)?;
     let directory = change(words)?;
-    Ok(CreateOk {
+    Some(CreateOk {
         handle,
         object,
         directory,
     })
 }
 
-fn rename(words: &mut Words<'_>) -> Result<Answer, Fault> {
+fn rename(words: &mut Words<'_>) -> Option<Answer> {
     let from = change(words)?;
     let to = change(words)?;
-    Ok(Answer::Rename(Ok(RenameResults { from, to })))
+    Some(Answer::Rename(Ok(RenameResults { from, to })))
 }
 
-fn link(words: &mut Words<'_>) -> Result<Answer, Fault> {
+fn link(words: &mut Words<'_>) -> Option<Answer> {
     let file = told(words)?;
     let directory = change(words)?;
-    Ok(Answer::Link(Ok(LinkResults { file, directory })))
+    Some(Answer::Link(Ok(LinkResults { file, directory })))
 }
 
-fn fsstat(words: &mut Words<'_>) -> Result<Answer, Fault> {
+fn fsstat(words: &mut Words<'_>) -> Option<Answer> {
     let root = told(words)?;
-    Ok(Answer::FsStat(Ok(FsStatOk {
+    Some(Answer::FsStat(Ok(FsStatOk {
         root,
         total_bytes: words.long()?,
         free_bytes: words.long()?,
@@ -127,9 +126,9 @@ fn fsstat(words: &mut Words<'_>) -> Result<Answer, Fault> {
     })))
 }
 
-fn fsinfo(words: &mut Words<'_>) -> Result<Answer, Fault> {
+fn fsinfo(words: &mut Words<'_>) -> Option<Answer> {
     let root = told(words)?;
-    Ok(Answer::FsInfo(Ok(FsInfoOk {
+    Some(Answer::FsInfo(Ok(FsInfoOk {
         root,
         read_max: words.int()?,
         read_preferred: words.int()?,
@@ -144,9 +143,9 @@ fn fsinfo(words: &mut Words<'_>) -> Result<Answer, Fault> {
     })))
 }
 
-fn pathconf(words: &mut Words<'_>) -> Result<Answer, Fault> {
+fn pathconf(words: &mut Words<'_>) -> Option<Answer> {
     let object = told(words)?;
-    Ok(Answer::PathConf(Ok(PathConfOk {
+    Some(Answer::PathConf(Ok(PathConfOk {
         object,
         link_max: words.int()?,
         name_max: words.int()?,
@@ -157,8 +156,8 @@ fn pathconf(words: &mut Words<'_>) -> Result<Answer, Fault> {
     })))
 }
 
-fn commit(words: &mut Words<'_>) -> Result<Answer, Fault> {
+fn commit(words: &mut Words<'_>) -> Option<Answer> {
     let file = change(words)?;
     let verifier = words.long()?;
-    Ok(Answer::Commit(Ok(CommitOk { file, verifier })))
+    Some(Answer::Commit(Ok(CommitOk { file, verifier })))
 }

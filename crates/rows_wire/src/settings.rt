@@ -1,20 +1,19 @@
 //! The settings.
 
-use crate::fault::Fault;
 use crate::words::Words;
 use sky_settings::{Fields, Settings};
 use std::alloc::Global;
 
 /// `of VOLUME JOURNAL-AREA RETAINED THRESHOLD CACHE-ITEMS` or `default`.
-pub fn asked(alloc: Global, words: &mut Words<'_>) -> Result<String, Fault> {
+pub fn asked(alloc: Global, words: &mut Words<'_>) -> Option<String> {
     match words.word()? {
         "of" => of(alloc, words),
         "default" => told(alloc, Settings::default()),
-        _ => Err(Fault::Unread),
+        _ => None,
     }
 }
 
-fn of(alloc: Global, words: &mut Words<'_>) -> Result<String, Fault> {
+fn of(alloc: Global, words: &mut Words<'_>) -> Option<String> {
     let volume = words.long()?;
     let journal_area = words.long()?;
     let retained = words.int()?;
@@ -29,22 +28,22 @@ fn of(alloc: Global, words: &mut Words<'_>) -> Result<String, Fault> {
     };
     match Settings::of(fields) {
         Some(settings) => told(alloc, settings),
-        None => Ok(format!(in alloc; "out of range")?),
+        None => format!(in alloc; "out of range").ok(),
     }
 }
 
 /// The settings as their fields, and each of them by itself.
-fn told(alloc: Global, settings: Settings) -> Result<String, Fault> {
+fn told(alloc: Global, settings: Settings) -> Option<String> {
     let fields = settings.fields();
     let each = each_told(alloc, settings)?;
-    Ok(format!(in alloc; "{fields:?} {each}")?)
+    format!(in alloc; "{fields:?} {each}").ok()
 }
 
-fn each_told(alloc: Global, settings: Settings) -> Result<String, Fault> {
+fn each_told(alloc: Global, settings: Settings) -> Option<String> {
     let volume = settings.volume();
     let area = settings.journal_area();
     let retained = settings.retained();
     let threshold = settings.threshold();
     let items = settings.cache_items();
-    Ok(format!(in alloc; "{volume} {area} {retained} {threshold} {items}")?)
+    format!(in alloc; "{volume} {area} {retained} {threshold} {items}").ok()
 }

@@ -1,6 +1,5 @@
 //! The words of a row, taken one after the other.
 
-use crate::fault::Fault;
 use crate::text::bytes_of;
 use std::alloc::Global;
 
@@ -22,59 +21,68 @@ impl<'a> Words<'a> {
     }
 
     /// Takes a word.
-    pub fn word(&mut self) -> Result<&'a str, Fault> {
+    pub fn word(&mut self) -> Option<&'a str> {
         let words = self.words;
         if words.is_empty() {
-            return Err(Fault::Unread);
+            return None;
         }
         self.words = &words[1..];
-        Ok(words[0])
+        Some(words[0])
     }
 
     /// Takes bytes.
-    pub fn bytes(&mut self, alloc: Global) -> Result<Vec<u8>, Fault> {
+    pub fn bytes(&mut self, alloc: Global) -> Option<Vec<u8>> {
         bytes_of(alloc, self.word()?)
     }
 
     /// Takes a number below 2^64.
-    pub fn long(&mut self) -> Result<u64, Fault> {
-        Ok(self.word()?.parse::<u64>()?)
+    pub fn long(&mut self) -> Option<u64> {
+        Some(self.word()?.parse::<u64>().ok()?)
     }
 
     /// Takes a number below 2^32.
-    pub fn int(&mut self) -> Result<u32, Fault> {
-        Ok(self.word()?.parse::<u32>()?)
+    pub fn int(&mut self) -> Option<u32> {
+        Some(self.word()?.parse::<u32>().ok()?)
     }
 
     /// Takes all numbers that are left, each below 2^64.
-    pub fn longs(&mut self, alloc: Global) -> Result<Vec<u64>, Fault> {
+    pub fn longs(&mut self, alloc: Global) -> Option<Vec<u64>> {
         let mut numbers = Vec::new(alloc);
         for word in self.words {
-            numbers.push(word.parse::<u64>()?)?;
+            numbers.push(word.parse::<u64>().ok()?).ok()?;
         }
-        Ok(numbers)
+        Some(numbers)
+    }
+
+    /// Takes all numbers that are left, each below 2^32.
+    pub fn ints(&mut self, alloc: Global) -> Option<Vec<u32>> {
+        let mut numbers = Vec::new(alloc);
+        for word in self.words {
+            numbers.push(word.parse::<u32>().ok()?).ok()?;
+        }
+        Some(numbers)
     }
 
     /// Takes `true` or `false`.
-    pub fn truth(&mut self) -> Result<bool, Fault> {
+    pub fn truth(&mut self) -> Option<bool> {
         truth_of(self.word()?)
     }
 
     /// That no word is left.
-    pub fn end(&self) -> Result<(), Fault> {
+    pub fn end(&self) -> Option<()> {
         if self.words.is_empty() {
-            Ok(())
+            Some(())
         } else {
-            Err(Fault::Unread)
+            None
         }
     }
 }
 
 /// What `true` or `false` stands for.
-pub fn truth_of(word: &str) -> Result<bool, Fault> {
+pub fn truth_of(word: &str) -> Option<bool> {
     match word {
-        "true" => Ok(true),
-        "false" => Ok(false),
-        _ => Err(Fault::Unread),
+        "true" => Some(true),
+        "false" => Some(false),
+        _ => None,
     }
 }
