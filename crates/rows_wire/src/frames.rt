@@ -119,13 +119,21 @@ fn moment_shown(alloc: Global, moment: Moment) -> Option<String> {
 
 /// The bytes that a source still has.
 fn rest_shown(alloc: Global, source: &mut Trickle) -> Option<String> {
-    let mut buf = [0; MOST as usize];
-    let mut count = 0;
-    while count < buf.len() {
-        match source.read(&mut buf[count..]) {
-            Ok(1) => count += 1,
-            _ => break,
-        }
+    let mut bytes = Vec::new(alloc);
+    for _ in 0..MOST {
+        let Some(byte) = next_byte(source) else {
+            break;
+        };
+        bytes.push(byte).ok()?;
     }
-    shown(alloc, &buf[..count])
+    shown(alloc, &bytes)
+}
+
+/// The next byte of a source, if it has one.
+fn next_byte(source: &mut Trickle) -> Option<u8> {
+    let mut buf = [0];
+    match source.read(&mut buf) {
+        Ok(1) => Some(buf[0]),
+        _ => None,
+    }
 }
