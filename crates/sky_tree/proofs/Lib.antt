@@ -4,6 +4,7 @@ pub mod RemoveLemmas
 pub mod MakeLemmas
 pub mod CreateLemmas
 pub mod SetLemmas
+pub mod SettingLemmas
 pub mod ApplyLemmas
 pub mod LinkLemmas
 pub mod PageLemmas
