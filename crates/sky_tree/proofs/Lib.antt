@@ -1,5 +1,7 @@
 pub mod HandleLemmas
 pub mod RuleLemmas
+pub mod PlaceLemmas
+pub mod NamedLemmas
 pub mod RemoveLemmas
 pub mod MakeLemmas
 pub mod CreateLemmas
