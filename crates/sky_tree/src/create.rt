@@ -62,12 +62,19 @@ pub fn check_mkdir(
     Ok(dir)
 }
 
+/// Whether a text has a NUL.
+fn has_nul(text: &[u8]) -> bool
+    ensures { result ≡ has_byte 0 text.now }
+{
+    text.contains(&0)
+}
+
 /// A text that a symbolic link can have.
 fn check_text(text: &[u8]) -> Result<(), NfsStatus>
     ensures { result_err result ≡ first_of ((nat_lt max_link_text_bytes (length text.now), NameTooLong) ∷ (has_byte 0 text.now, Inval) ∷ []) }
 {
     refuse_if(text.len() > MAX_TEXT, NfsStatus::NameTooLong)?;
-    refuse_if(text.contains(&0), NfsStatus::Inval)
+    refuse_if(has_nul(text), NfsStatus::Inval)
 }
 
 /// The directory in which a SYMLINK makes a link, or why it is refused.

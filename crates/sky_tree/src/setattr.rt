@@ -91,19 +91,31 @@ fn check_sized(nodes: &Nodes, cred: &Cred, fileid: u64, set: &SetAttr) -> Result
     refuse_if(is_too_big(set.size), NfsStatus::FBig)
 }
 
+/// Whether a time is set to one of the caller's, by a caller who is neither the owner nor user 0.
+fn sets_client_time(nodes: &Nodes, cred: &Cred, fileid: u64, set: &SetAttr) -> bool
+    requires { IsSome (node_at nodes.now.nodes fileid) }
+    ensures { result ≡ ((is_client_time set.now.atime || is_client_time set.now.mtime) && is_stranger nodes.now cred.now fileid) }
+{
+    (is_client_time(set.atime) || is_client_time(set.mtime)) && is_stranger(nodes, cred, fileid)
+}
+
+/// Whether a time is set to the server's, by one who is neither of the two and may not write either.
+fn sets_server_time(nodes: &Nodes, cred: &Cred, fileid: u64, set: &SetAttr) -> bool
+    requires { IsSome (node_at nodes.now.nodes fileid) }
+    ensures { result ≡ ((is_server_time set.now.atime || is_server_time set.now.mtime) && is_stranger nodes.now cred.now fileid && lacks nodes.now cred.now fileid Write) }
+{
+    (is_server_time(set.atime) || is_server_time(set.mtime))
+        && is_stranger(nodes, cred, fileid)
+        && lacks(nodes, cred, fileid, Want::Write)
+}
+
 /// Whether the caller may set the times that are set of an object: the last two.
 fn check_timed(nodes: &Nodes, cred: &Cred, fileid: u64, set: &SetAttr) -> Result<(), NfsStatus>
     requires { IsSome (node_at nodes.now.nodes fileid) }
     ensures { result_err result ≡ first_of (((is_client_time set.now.atime || is_client_time set.now.mtime) && is_stranger nodes.now cred.now fileid, Perm) ∷ ((is_server_time set.now.atime || is_server_time set.now.mtime) && is_stranger nodes.now cred.now fileid && lacks nodes.now cred.now fileid Write, Acces) ∷ []) }
 {
-    let stranger = is_stranger(nodes, cred, fileid);
-    let client = is_client_time(set.atime) || is_client_time(set.mtime);
-    refuse_if(client && stranger, NfsStatus::Perm)?;
-    let server = is_server_time(set.atime) || is_server_time(set.mtime);
-    refuse_if(
-        server && stranger && lacks(nodes, cred, fileid, Want::Write),
-        NfsStatus::Acces,
-    )
+    refuse_if(sets_client_time(nodes, cred, fileid, set), NfsStatus::Perm)?;
+    refuse_if(sets_server_time(nodes, cred, fileid, set), NfsStatus::Acces)
 }
 
 /// What is set of an object: who may set it, and whether the object can have it.
