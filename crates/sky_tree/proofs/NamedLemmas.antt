@@ -35,6 +35,11 @@ unfolding refusal_of rules_of
 symlink_refused t cred at set text e h =
     refused_by (directory_rules t at.directory) (name_rules at.name ++ text_rules text ++ object_rules t cred (fileid_in at.directory) at.name set) e h
 
+pub symlink_made : (t : Tree) (cred : Cred) (at : DirOpArgs) (set : SetAttr) (text : List ℕ) (dir : ℕ) (name piece : List ℕ) → dir ≡ fileid_in at.directory → name ≡ at.name → piece ≡ text → None ≡ first_of (directory_rules t at.directory)
+    → None ≡ first_of (name_rules name) → None ≡ first_of (text_rules piece) → (x : Option NfsStatus) → x ≡ first_of (object_rules t cred dir name set) → x ≡ refusal_of t cred (Call.Symlink at set text)
+symlink_made t cred at set text dir name piece d n p h short fits x made =
+    made ∙ sym (passed_by (text_rules piece) (object_rules t cred dir name set) fits) ∙ sym (passed_by (name_rules name) (text_rules piece ++ object_rules t cred dir name set) short) ∙ symlink_named t cred at set text dir name piece d n p h
+
 -- the two names that no directory gives up
 abbrev pub dots_rules : List ℕ → Rules
 dots_rules name = (is_dot name, Inval) ∷ (is_dot_dot name, Exist) ∷ []
