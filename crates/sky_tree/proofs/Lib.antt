@@ -1,9 +1,12 @@
 pub mod HandleLemmas
 pub mod RuleLemmas
+pub mod PlaceLemmas
+pub mod NamedLemmas
 pub mod RemoveLemmas
 pub mod MakeLemmas
 pub mod CreateLemmas
 pub mod SetLemmas
+pub mod SettingLemmas
 pub mod ApplyLemmas
 pub mod LinkLemmas
 pub mod PageLemmas

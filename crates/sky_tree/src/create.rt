@@ -1,16 +1,18 @@
 //! MKDIR and SYMLINK, RFC 1813 sections 3.3.9 and 3.3.10.
 
-ghost use Rattle.std.specs.Prelude.{◌≡◌, ◌++◌, IfOk, IsSome, OnErr, OnOk, true};
+ghost use Rattle.std.specs.Prelude.{◌≡◌, [], ◌∷◌, ◌++◌, IfOk, IsSome, OnErr, OnOk, length, nat_lt, true};
 ghost use Rattle.std.specs.Result.{result_err};
+ghost use Rattle.sky_base.specs.Limits.{max_link_text_bytes};
 ghost use Rattle.sky_nfs.specs.Handles.{fileid_in};
 ghost use Rattle.sky_nfs.specs.Procedure.{refusal_of, tree_after};
 ghost use Rattle.sky_nfs.specs.Procedures.Create.{created};
 ghost use Rattle.sky_nfs.specs.Procedures.Mkdir.{new_attribute_rules, new_name_rules};
 ghost use Rattle.sky_nfs.specs.Results.{results_or, wcc};
-ghost use Rattle.sky_nfs.specs.Rules.{first_of, new_room_rules};
+ghost use Rattle.sky_nfs.specs.Rules.{first_of, has_byte, new_room_rules};
 ghost use Rattle.sky_nfs.specs.Tree.{is_directory, node_at, the_node};
 ghost use Rattle.sky_nfs.specs.Validity.{IsValidTree};
 ghost use Rattle.sky_nfs.specs.declared.call.Call.{Call};
+ghost use Rattle.sky_nfs.specs.declared.status.NfsStatus.TheVariants.{Inval, NameTooLong};
 
 use crate::attribute_rules::check_new_attributes;
 use crate::name_rules::{check_new_name, check_new_room, new_name};
@@ -60,8 +62,22 @@ pub fn check_mkdir(
     Ok(dir)
 }
 
+/// Whether a text has a NUL.
+fn has_nul(text: &[u8]) -> bool
+    ensures { result ≡ has_byte 0 text.now }
+{
+    text.contains(&0)
+}
+
+/// A text that a symbolic link can have.
+fn check_text(text: &[u8]) -> Result<(), NfsStatus>
+    ensures { result_err result ≡ first_of ((nat_lt max_link_text_bytes (length text.now), NameTooLong) ∷ (has_byte 0 text.now, Inval) ∷ []) }
+{
+    refuse_if(text.len() > MAX_TEXT, NfsStatus::NameTooLong)?;
+    refuse_if(has_nul(text), NfsStatus::Inval)
+}
+
 /// The directory in which a SYMLINK makes a link, or why it is refused.
-#[tactic(auto, unfolding(sky_nfs::specs::Procedure::refusal_of, sky_nfs::specs::Procedure::rules_of))]
 pub fn check_symlink(
     nodes: &Nodes,
     cred: &Cred,
@@ -76,8 +92,7 @@ pub fn check_symlink(
     let text = text.as_slice();
     let dir = resolve_directory(nodes, &at.directory)?;
     check_name(name)?;
-    refuse_if(text.len() > MAX_TEXT, NfsStatus::NameTooLong)?;
-    refuse_if(text.contains(&0), NfsStatus::Inval)?;
+    check_text(text)?;
     check_new_object(nodes, cred, dir, name, set)?;
     Ok(dir)
 }

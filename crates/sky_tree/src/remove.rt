@@ -1,14 +1,15 @@
 //! REMOVE and RMDIR, RFC 1813 sections 3.3.12 and 3.3.13.
 
-ghost use Rattle.std.specs.Prelude.{◌≡◌, IfOk, IsSome, Some};
+ghost use Rattle.std.specs.Prelude.{◌≡◌, [], ◌∷◌, IfOk, IsSome, Some, not};
 ghost use Rattle.std.specs.Result.{result_err};
 ghost use Rattle.sky_nfs.specs.Handles.{fileid_in};
 ghost use Rattle.sky_nfs.specs.Procedure.{refusal_of, tree_after};
 ghost use Rattle.sky_nfs.specs.Procedures.Remove.{has_entries, old_name_rules};
 ghost use Rattle.sky_nfs.specs.Results.{results_or, wcc};
-ghost use Rattle.sky_nfs.specs.Rules.{first_of};
-ghost use Rattle.sky_nfs.specs.Tree.{named, node_at, the_node};
+ghost use Rattle.sky_nfs.specs.Rules.{first_of, is_dot, is_dot_dot};
+ghost use Rattle.sky_nfs.specs.Tree.{is_directory, named, node_at, the_node};
 ghost use Rattle.sky_nfs.specs.declared.call.Call.{Call};
+ghost use Rattle.sky_nfs.specs.declared.status.NfsStatus.TheVariants.{Exist, Inval, NotDir, NotEmpty};
 
 use crate::results::{post_attributes, pre_attributes, wcc_answer};
 use crate::rules::{check_name, is_dot, is_dot_dot, is_dots, lacks, refuse_if, resolve_directory};
@@ -29,7 +30,6 @@ fn old_name(nodes: &Nodes, cred: &Cred, dir: u64, name: &[u8]) -> Result<u64, Nf
 }
 
 /// The directory in which a REMOVE removes a name, or why it is refused.
-#[tactic(auto, unfolding(sky_nfs::specs::Procedure::refusal_of, sky_nfs::specs::Procedure::rules_of))]
 pub fn check_remove(nodes: &Nodes, cred: &Cred, at: &DirOpArgs) -> Result<u64, NfsStatus>
     ensures refused { result_err result ≡ refusal_of nodes.now cred.now (Call.Remove at.now) }
     ensures dir { IfOk result (λ dir. dir ≡ fileid_in at.now.directory) }
@@ -43,8 +43,23 @@ pub fn check_remove(nodes: &Nodes, cred: &Cred, at: &DirOpArgs) -> Result<u64, N
     Ok(dir)
 }
 
+/// A name that an RMDIR may remove: neither `.` nor `..`.
+fn check_dots(name: &[u8]) -> Result<(), NfsStatus>
+    ensures { result_err result ≡ first_of ((is_dot name.now, Inval) ∷ (is_dot_dot name.now, Exist) ∷ []) }
+{
+    refuse_if(is_dot(name), NfsStatus::Inval)?;
+    refuse_if(is_dot_dot(name), NfsStatus::Exist)
+}
+
+/// A node that an RMDIR may remove: a directory without entries.
+fn check_emptied(nodes: &Nodes, fileid: u64) -> Result<(), NfsStatus>
+    ensures { result_err result ≡ first_of ((not (is_directory (the_node nodes.now fileid)), NotDir) ∷ (has_entries (the_node nodes.now fileid), NotEmpty) ∷ []) }
+{
+    refuse_if(!nodes.is_directory(fileid), NfsStatus::NotDir)?;
+    refuse_if(has_entries(nodes, fileid), NfsStatus::NotEmpty)
+}
+
 /// The directory in which an RMDIR removes a name, or why it is refused.
-#[tactic(auto, unfolding(sky_nfs::specs::Procedure::refusal_of, sky_nfs::specs::Procedure::rules_of))]
 pub fn check_rmdir(nodes: &Nodes, cred: &Cred, at: &DirOpArgs) -> Result<u64, NfsStatus>
     ensures refused { result_err result ≡ refusal_of nodes.now cred.now (Call.Rmdir at.now) }
     ensures dir { IfOk result (λ dir. dir ≡ fileid_in at.now.directory) }
@@ -52,11 +67,9 @@ pub fn check_rmdir(nodes: &Nodes, cred: &Cred, at: &DirOpArgs) -> Result<u64, Nf
     let name = at.name.as_slice();
     let dir = resolve_directory(nodes, &at.directory)?;
     check_name(name)?;
-    refuse_if(is_dot(name), NfsStatus::Inval)?;
-    refuse_if(is_dot_dot(name), NfsStatus::Exist)?;
+    check_dots(name)?;
     let fileid = old_name(nodes, cred, dir, name)?;
-    refuse_if(!nodes.is_directory(fileid), NfsStatus::NotDir)?;
-    refuse_if(has_entries(nodes, fileid), NfsStatus::NotEmpty)?;
+    check_emptied(nodes, fileid)?;
     Ok(dir)
 }
 

@@ -1,14 +1,16 @@
 //! SETATTR, RFC 1813 section 3.3.2.
 
-ghost use Rattle.std.specs.Prelude.{◌≡◌, IfOk, IsSome, None, OnErr, OnOk};
+ghost use Rattle.std.specs.Prelude.{◌≡◌, ◌&&◌, ◌||◌, [], ◌∷◌, IfOk, IsSome, None, OnErr, OnOk, is_some};
 ghost use Rattle.std.specs.Result.{result_err};
+ghost use Rattle.sky_base.specs.declared.cred.Want.TheVariants.{Write};
 ghost use Rattle.sky_nfs.specs.Handles.{fileid_in};
 ghost use Rattle.sky_nfs.specs.Procedure.{refusal_of, tree_after};
 ghost use Rattle.sky_nfs.specs.Procedures.SetAttr.{guard_differs, is_client_time, is_server_time};
 ghost use Rattle.sky_nfs.specs.Results.{results_or, wcc};
-ghost use Rattle.sky_nfs.specs.Rules.{first_of};
-ghost use Rattle.sky_nfs.specs.Tree.{node_at};
+ghost use Rattle.sky_nfs.specs.Rules.{first_of, has_bad_time, is_stranger, is_too_big, lacks, lacks_unless_owner, may_not_set_owners};
+ghost use Rattle.sky_nfs.specs.Tree.{is_directory, is_link, node_at, the_node};
 ghost use Rattle.sky_nfs.specs.declared.call.Call.{Call};
+ghost use Rattle.sky_nfs.specs.declared.status.NfsStatus.TheVariants.{Acces, FBig, Inval, IsDir, Perm};
 ghost use Rattle.sky_tree.specs.Setting.{object_rules, setting_rules};
 
 use crate::attribute_rules::{has_bad_time, is_too_big, may_not_set_owners};
@@ -56,20 +58,27 @@ fn check_object(nodes: &Nodes, object: &RawHandle, guard: Option<Moment>) -> Res
     Ok(fileid)
 }
 
-/// What is set of an object: who may set it, and whether the object can have it.
-fn check_setting(nodes: &Nodes, cred: &Cred, fileid: u64, set: &SetAttr) -> Result<(), NfsStatus>
+/// The times, the mode and the owners that are set of an object: the first three of the rules.
+fn check_owned(nodes: &Nodes, cred: &Cred, fileid: u64, set: &SetAttr) -> Result<(), NfsStatus>
     requires { IsSome (node_at nodes.now.nodes fileid) }
-    ensures { result_err result ≡ first_of (setting_rules nodes.now cred.now fileid set.now) }
+    ensures { result_err result ≡ first_of ((has_bad_time set.now, Inval) ∷ (is_some set.now.mode && is_stranger nodes.now cred.now fileid, Perm) ∷ (may_not_set_owners cred.now (the_node nodes.now fileid).uid (the_node nodes.now fileid).gid set.now, Perm) ∷ []) }
 {
     let attr = attributes_at(nodes, fileid);
-    let sized = set.size.is_some();
-    let stranger = is_stranger(nodes, cred, fileid);
     refuse_if(has_bad_time(set), NfsStatus::Inval)?;
+    let stranger = is_stranger(nodes, cred, fileid);
     refuse_if(set.mode.is_some() && stranger, NfsStatus::Perm)?;
     refuse_if(
         may_not_set_owners(cred, attr.uid, attr.gid, set),
         NfsStatus::Perm,
-    )?;
+    )
+}
+
+/// The size that is set of an object: the next four.
+fn check_sized(nodes: &Nodes, cred: &Cred, fileid: u64, set: &SetAttr) -> Result<(), NfsStatus>
+    requires { IsSome (node_at nodes.now.nodes fileid) }
+    ensures { result_err result ≡ first_of ((is_some set.now.size && is_directory (the_node nodes.now fileid), IsDir) ∷ (is_some set.now.size && is_link (the_node nodes.now fileid), Inval) ∷ (is_some set.now.size && lacks_unless_owner nodes.now cred.now fileid Write, Acces) ∷ (is_too_big set.now.size, FBig) ∷ []) }
+{
+    let sized = set.size.is_some();
     refuse_if(
         sized && node(nodes, fileid).is_directory(),
         NfsStatus::IsDir,
@@ -79,14 +88,44 @@ fn check_setting(nodes: &Nodes, cred: &Cred, fileid: u64, set: &SetAttr) -> Resu
         sized && lacks_unless_owner(nodes, cred, fileid, Want::Write),
         NfsStatus::Acces,
     )?;
-    refuse_if(is_too_big(set.size), NfsStatus::FBig)?;
-    let client = is_client_time(set.atime) || is_client_time(set.mtime);
-    refuse_if(client && stranger, NfsStatus::Perm)?;
-    let server = is_server_time(set.atime) || is_server_time(set.mtime);
-    refuse_if(
-        server && stranger && lacks(nodes, cred, fileid, Want::Write),
-        NfsStatus::Acces,
-    )
+    refuse_if(is_too_big(set.size), NfsStatus::FBig)
+}
+
+/// Whether a time is set to one of the caller's, by a caller who is neither the owner nor user 0.
+fn sets_client_time(nodes: &Nodes, cred: &Cred, fileid: u64, set: &SetAttr) -> bool
+    requires { IsSome (node_at nodes.now.nodes fileid) }
+    ensures { result ≡ ((is_client_time set.now.atime || is_client_time set.now.mtime) && is_stranger nodes.now cred.now fileid) }
+{
+    (is_client_time(set.atime) || is_client_time(set.mtime)) && is_stranger(nodes, cred, fileid)
+}
+
+/// Whether a time is set to the server's, by one who is neither of the two and may not write either.
+fn sets_server_time(nodes: &Nodes, cred: &Cred, fileid: u64, set: &SetAttr) -> bool
+    requires { IsSome (node_at nodes.now.nodes fileid) }
+    ensures { result ≡ ((is_server_time set.now.atime || is_server_time set.now.mtime) && is_stranger nodes.now cred.now fileid && lacks nodes.now cred.now fileid Write) }
+{
+    (is_server_time(set.atime) || is_server_time(set.mtime))
+        && is_stranger(nodes, cred, fileid)
+        && lacks(nodes, cred, fileid, Want::Write)
+}
+
+/// Whether the caller may set the times that are set of an object: the last two.
+fn check_timed(nodes: &Nodes, cred: &Cred, fileid: u64, set: &SetAttr) -> Result<(), NfsStatus>
+    requires { IsSome (node_at nodes.now.nodes fileid) }
+    ensures { result_err result ≡ first_of (((is_client_time set.now.atime || is_client_time set.now.mtime) && is_stranger nodes.now cred.now fileid, Perm) ∷ ((is_server_time set.now.atime || is_server_time set.now.mtime) && is_stranger nodes.now cred.now fileid && lacks nodes.now cred.now fileid Write, Acces) ∷ []) }
+{
+    refuse_if(sets_client_time(nodes, cred, fileid, set), NfsStatus::Perm)?;
+    refuse_if(sets_server_time(nodes, cred, fileid, set), NfsStatus::Acces)
+}
+
+/// What is set of an object: who may set it, and whether the object can have it.
+fn check_setting(nodes: &Nodes, cred: &Cred, fileid: u64, set: &SetAttr) -> Result<(), NfsStatus>
+    requires { IsSome (node_at nodes.now.nodes fileid) }
+    ensures { result_err result ≡ first_of (setting_rules nodes.now cred.now fileid set.now) }
+{
+    check_owned(nodes, cred, fileid, set)?;
+    check_sized(nodes, cred, fileid, set)?;
+    check_timed(nodes, cred, fileid, set)
 }
 
 /// The object of which a SETATTR sets attributes, or why it is refused.

@@ -1,0 +1,11 @@
+use Rattle.std.proofs.lemmas.Result.{err_from_is_err_and}
+use Rattle.sky_tree.proofs.RuleLemmas.{refuses, passes, decides}
+use Rattle.sky_tree.proofs.setattr.check_timed.Goals as goal
+
+pub returns-in_err-refuse_if : goal.returns-in_err-refuse_if
+returns-in_err-refuse_if c =
+    let p = err_from_is_err_and c.from_residual.result c.from_residual.ensures.1 in
+    rw (p.1, p.2) (refuses _ _ _ _ _ c.sets_client_time.ensures c.in_err-refuse_if.ensures)
+
+pub returns : goal.returns
+returns c = passes _ _ _ _ _ c.sets_client_time.ensures c.in_ok-refuse_if.ensures (decides _ _ _ _ _ c.sets_server_time.ensures c.refuse_if-2.ensures)
