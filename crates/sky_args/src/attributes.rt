@@ -105,7 +105,7 @@ pub fn take_guard(reader: &mut Reader<'_>) -> Result<Option<Moment>, XdrFault>
 }
 
 /// Writes a moment.
-#[tactic(auto, unfolding(crate::specs::Parts::moment_bytes), using(sky_xdr::proofs::Puts::puts_then, sky_xdr::proofs::Puts::stops_then))]
+#[tactic(auto, unfolding(crate::specs::Parts::moment_bytes))]
 pub fn put_moment(writer: &mut Writer<'_>, moment: Moment) -> Result<(), NoRoom>
     ensures puts { Puts result (moment_bytes moment) writer.old writer.new }
 {
@@ -114,7 +114,7 @@ pub fn put_moment(writer: &mut Writer<'_>, moment: Moment) -> Result<(), NoRoom>
 }
 
 /// Writes a device.
-#[tactic(auto, unfolding(crate::specs::Parts::device_bytes), using(sky_xdr::proofs::Puts::puts_then, sky_xdr::proofs::Puts::stops_then))]
+#[tactic(auto, unfolding(crate::specs::Parts::device_bytes))]
 pub fn put_device(writer: &mut Writer<'_>, device: Device) -> Result<(), NoRoom>
     ensures puts { Puts result (device_bytes device) writer.old writer.new }
     ensures fits { FitsDevice device }
@@ -167,7 +167,6 @@ fn put_set_time(writer: &mut Writer<'_>, time: SetTime) -> Result<(), NoRoom>
 }
 
 /// Writes the mode, the owner and the owner's group that a call sets.
-#[tactic(auto, using(sky_xdr::proofs::Puts::puts_then, sky_xdr::proofs::Puts::stops_then))]
 fn put_owners(writer: &mut Writer<'_>, attributes: SetAttr) -> Result<(), NoRoom>
     ensures puts { Puts result (optional uint attributes.mode ++ optional uint attributes.uid ++ optional uint attributes.gid)
         writer.old writer.new }
@@ -178,7 +177,7 @@ fn put_owners(writer: &mut Writer<'_>, attributes: SetAttr) -> Result<(), NoRoom
 }
 
 /// Writes the attributes that a call sets.
-#[tactic(auto, unfolding(crate::specs::Parts::set_attr_bytes), using(sky_xdr::proofs::Puts::puts_then, sky_xdr::proofs::Puts::stops_then))]
+#[tactic(auto, unfolding(crate::specs::Parts::set_attr_bytes))]
 pub fn put_set_attr(writer: &mut Writer<'_>, attributes: SetAttr) -> Result<(), NoRoom>
     ensures puts { Puts result (set_attr_bytes attributes) writer.old writer.new }
     ensures fits { FitsSetAttr attributes }

@@ -1,5 +1,5 @@
 //! The arguments of the calls that change the tree, and of MKNOD, read and written.
-#![tactic(auto, unfolding(crate::specs::Reading::set_attr_call_at, crate::specs::Reading::write_at, crate::specs::Reading::create_at, crate::specs::Reading::mkdir_at, crate::specs::Reading::symlink_at, crate::specs::Reading::mknod_at, crate::specs::Reading::remove_at, crate::specs::Reading::rmdir_at, crate::specs::Reading::rename_at, crate::specs::Reading::link_at, sky_xdr::specs::Reading::bind, sky_xdr::specs::GrammarReading::give), using(sky_xdr::proofs::Puts::puts_then, sky_xdr::proofs::Puts::stops_then))]
+#![tactic(auto, unfolding(crate::specs::Reading::set_attr_call_at, crate::specs::Reading::write_at, crate::specs::Reading::create_at, crate::specs::Reading::mkdir_at, crate::specs::Reading::symlink_at, crate::specs::Reading::mknod_at, crate::specs::Reading::remove_at, crate::specs::Reading::rmdir_at, crate::specs::Reading::rename_at, crate::specs::Reading::link_at, sky_xdr::specs::Reading::bind, sky_xdr::specs::GrammarReading::give))]
 
 ghost use Rattle.std.specs.Prelude.{◌≡◌, ◌^◌, ◌<◌, ◌≤◌, ◌++◌, length, IfSome, OnOk};
 ghost use Rattle.sky_xdr.specs.Encoding.{uint, uhyper, opaque};

@@ -84,7 +84,7 @@ pub fn put_verifier(writer: &mut Writer<'_>, verifier: [u8; 8]) -> Result<(), No
 }
 
 /// Writes a name in a directory.
-#[tactic(auto, unfolding(crate::specs::Parts::dir_op_args_bytes), using(sky_xdr::proofs::Puts::puts_then, sky_xdr::proofs::Puts::stops_then))]
+#[tactic(auto, unfolding(crate::specs::Parts::dir_op_args_bytes))]
 pub fn put_dir_op_args(writer: &mut Writer<'_>, at: &DirOpArgs) -> Result<(), NoRoom>
     requires { length (dir_op_args_bytes at.now) < 2 ^ 32 }
     ensures puts { Puts result (dir_op_args_bytes at.now) writer.old writer.new }

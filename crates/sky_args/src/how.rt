@@ -70,7 +70,6 @@ pub fn put_stable_how(writer: &mut Writer<'_>, how: StableHow) -> Result<(), NoR
 }
 
 /// Writes a number, and the attributes that stand behind it.
-#[tactic(auto, using(sky_xdr::proofs::Puts::puts_then, sky_xdr::proofs::Puts::stops_then))]
 fn put_numbered(writer: &mut Writer<'_>, number: u32, attributes: SetAttr) -> Result<(), NoRoom>
     ensures puts { Puts result (uint number ++ set_attr_bytes attributes) writer.old writer.new }
     ensures fits { OnOk result (FitsSetAttr attributes) }
@@ -96,7 +95,6 @@ pub fn put_create_how(writer: &mut Writer<'_>, how: CreateHow) -> Result<(), NoR
 }
 
 /// Writes what a block or character device is.
-#[tactic(auto, using(sky_xdr::proofs::Puts::puts_then, sky_xdr::proofs::Puts::stops_then))]
 fn put_special(
     writer: &mut Writer<'_>,
     number: u32,

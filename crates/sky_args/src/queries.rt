@@ -1,5 +1,5 @@
 //! The arguments of the calls that leave the tree as it is, read and written.
-#![tactic(auto, unfolding(crate::specs::Reading::get_attr_at, crate::specs::Reading::lookup_at, crate::specs::Reading::access_at, crate::specs::Reading::read_link_at, crate::specs::Reading::read_at, crate::specs::Reading::read_dir_at, crate::specs::Reading::read_dir_plus_at, crate::specs::Reading::fs_stat_at, crate::specs::Reading::fs_info_at, crate::specs::Reading::path_conf_at, crate::specs::Reading::commit_at, sky_xdr::specs::Reading::bind, sky_xdr::specs::GrammarReading::give), using(sky_xdr::proofs::Puts::puts_then, sky_xdr::proofs::Puts::stops_then))]
+#![tactic(auto, unfolding(crate::specs::Reading::get_attr_at, crate::specs::Reading::lookup_at, crate::specs::Reading::access_at, crate::specs::Reading::read_link_at, crate::specs::Reading::read_at, crate::specs::Reading::read_dir_at, crate::specs::Reading::read_dir_plus_at, crate::specs::Reading::fs_stat_at, crate::specs::Reading::fs_info_at, crate::specs::Reading::path_conf_at, crate::specs::Reading::commit_at, sky_xdr::specs::Reading::bind, sky_xdr::specs::GrammarReading::give))]
 
 ghost use Rattle.std.specs.Prelude.{◌≡◌, ◌<◌, ◌++◌, length};
 ghost use Rattle.sky_xdr.specs.Encoding.{uint, uhyper, fixed, opaque};

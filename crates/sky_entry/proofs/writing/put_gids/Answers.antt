@@ -1,4 +1,3 @@
-use Rattle.std.proofs.Common.{arith}
 use Rattle.sky_entry.proofs.Words.{all_fit, puts_words}
 use Rattle.sky_entry.proofs.writing.put_gids.Goals as goal
 
@@ -8,4 +7,4 @@ returns-clause-puts c =
     puts_words c.put_words.result c.args.gids.now c.args.writer.now c.put_words.new.writer h.fits h.written h.unwritten h.room h.same_buffer
 
 pub returns-clause-fits : goal.returns-clause-fits
-returns-clause-fits c = all_fit c.args.gids.now (λ i. omega (arith, c.type_inv.gids i))
+returns-clause-fits c = all_fit c.args.gids.now (λ i. (c.type_inv.gids i).fits)
