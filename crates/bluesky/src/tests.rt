@@ -13,7 +13,7 @@ use std::process::Abort;
 use std::test::Fail;
 use text::{bytes_of, bytes_of_words, put_frame};
 
-/// A source that gives at most so many bytes at a time.
+/// A source that gives at most so many bytes at a time, and one where that is 0.
 #[derive(Drop)]
 struct Trickle {
     source: MemSource,
@@ -26,7 +26,7 @@ impl Source for Trickle {
     ghost faults = { λ t. ⟦<MemSource as Source>⟧.faults t.source };
 
     fn read(&mut self, buf: &mut [u8]) -> Result<usize, Failed> {
-        let room = buf.len().min(self.most);
+        let room = buf.len().min(self.most.max(1));
         self.source.read(&mut buf[..room])
     }
 }
@@ -116,64 +116,165 @@ fn run_command(
 /// The words of the command that is run.
 const COMMAND: &str = "replay --journal j --cloud c";
 
-/// Runs a command over these bytes, devices and site; how it ends, and what it writes.
+/// How a run ended, by the status's number and place, and what it wrote.
+#[derive(Drop)]
+struct Ran {
+    number: u32,
+    place: u64,
+    written: Vec<u8>,
+}
+
+/// What a run with this status wrote to a sink.
+fn told_by(alloc: Global, status: Status, sink: &MemSink) -> Result<Ran, Fail> {
+    Ok(Ran {
+        number: status.number(),
+        place: status.place(),
+        written: Vec::from_slice(alloc, sink.bytes())?,
+    })
+}
+
+/// Runs a command over a source, into a sink of which the calls of these numbers fail.
+fn run_into(
+    alloc: Global,
+    command: (&str, &str),
+    source: &mut Trickle,
+    writes: Vec<u64>,
+    site: &mut SparseSite,
+) -> Result<Ran, Fail> {
+    let words = words_of_text(alloc, command.0)?;
+    let mut sink = MemSink::new(alloc, 200_000, writes).map_err(|_| "no memory")?;
+    let settings = command.1.as_bytes();
+    let status = run_command(alloc, &words, settings, source, &mut sink, site);
+    told_by(alloc, status, &sink)
+}
+
+/// Runs a command over these bytes, devices and site.
 fn run_text(
     alloc: Global,
     command: (&str, &str),
     bytes: &[u8],
     devices: Devices,
     site: &mut SparseSite,
-) -> Result<(Status, MemSink), Fail> {
-    let words = words_of_text(alloc, command.0)?;
+) -> Result<Ran, Fail> {
     let Devices {
         reads,
         writes,
         calls: _,
         most,
     } = devices;
-    let mut source = Trickle {
-        source: MemSource::new(Vec::from_slice(alloc, bytes)?, reads),
-        most,
-    };
-    let mut sink = MemSink::new(alloc, 200_000, writes).map_err(|_| "no memory")?;
-    let settings = command.1.as_bytes();
-    let status = run_command(alloc, &words, settings, &mut source, &mut sink, site);
-    Ok((status, sink))
+    let bytes = Vec::from_slice(alloc, bytes)?;
+    let source = MemSource::new(bytes, reads);
+    run_into(alloc, command, &mut Trickle { source, most }, writes, site)
 }
 
 /// Replays a recording over a site, where neither the source nor the sink fails.
-fn replay(alloc: Global, bytes: &[u8], site: &mut SparseSite) -> Result<(Status, MemSink), Fail> {
+fn replay(alloc: Global, bytes: &[u8], site: &mut SparseSite) -> Result<Ran, Fail> {
     run_text(alloc, (COMMAND, ""), bytes, Devices::new(alloc), site)
 }
 
-/// The last frame, with this status at this place.
-fn put_end(bytes: &mut Vec<u8>, status: u32, place: u64) -> Result<(), Fail> {
-    let [a, b, c, d] = status.to_be_bytes();
-    let [e, f, g, h, i, j, k, l] = place.to_be_bytes();
-    put_frame(bytes, 99, &[a, b, c, d, e, f, g, h, i, j, k, l])
+/// Replays the recording of a text.
+fn replay_text(alloc: Global, text: &str, site: &mut SparseSite) -> Result<Ran, Fail> {
+    replay(alloc, &bytes_of(alloc, text)?, site)
 }
 
-/// That a run ended with this status at this place, and wrote these bytes and the last frame. With `cut` for the place it wrote a
+/// Replays a recording over a blank site.
+fn replay_blank(alloc: Global, bytes: &[u8]) -> Result<Ran, Fail> {
+    let mut site = new_site(alloc, Vec::new(alloc))?;
+    replay(alloc, bytes, &mut site)
+}
+
+/// The two numbers of a text, the second behind a space. One that is no number is none.
+fn numbers_of(text: &str) -> Result<(u32, Option<u64>), Fail> {
+    let (number, place) = text.trim().split_once(' ').ok_or("no end")?;
+    Ok((number.parse::<u32>()?, place.parse::<u64>().ok()))
+}
+
+/// The last frame, with this status at this place.
+fn put_end(bytes: &mut Vec<u8>, number: u32, place: u64) -> Result<(), Fail> {
+    bytes.extend_from_slice(b"\x63\0\0\0\0\0\0\0\x0c")?;
+    bytes.extend_from_slice(&number.to_be_bytes())?;
+    bytes.extend_from_slice(&place.to_be_bytes())?;
+    Ok(())
+}
+
+/// Whether some bytes are a proper prefix of others.
+fn is_cut(written: &[u8], wanted: &[u8]) -> bool {
+    wanted.starts_with(written) && written.len() < wanted.len()
+}
+
+/// Whether a run ended with this status at this place, and wrote these bytes and the last frame. Without a place it wrote a
 /// proper prefix of these bytes.
+fn has_ended(ran: &Ran, end: (u32, Option<u64>), wanted: &mut Vec<u8>) -> Result<bool, Fail> {
+    let (number, place) = end;
+    let Some(place) = place else {
+        return Ok(ran.number == number && is_cut(&ran.written, wanted));
+    };
+    put_end(wanted, number, place)?;
+    Ok(ran.number == number && ran.place == place && ran.written.as_slice() == wanted.as_slice())
+}
+
+/// That a run ended as a text says: the status and the place, or `cut`; and what it wrote before the last frame.
 fn check_end(
     rt: &impl Abort,
-    run: &(Status, MemSink),
+    alloc: Global,
+    ran: &Ran,
     end: &str,
-    mut wanted: Vec<u8>,
+    answers: &str,
 ) -> Result<(), Fail> {
-    let (number, place) = end.trim().split_once(' ').ok_or("no end")?;
-    let number = number.parse::<u32>()?;
-    assert_eq!(rt; run.0.number(), number);
-    let written = run.1.bytes();
-    if place == "cut" {
-        assert!(rt; wanted.starts_with(written) && written.len() < wanted.len());
-        return Ok(());
-    }
-    let place = place.parse::<u64>()?;
-    assert_eq!(rt; run.0.place(), place);
-    put_end(&mut wanted, number, place)?;
-    assert_eq!(rt; written, wanted.as_slice());
+    let mut wanted = bytes_of(alloc, answers)?;
+    let holds = has_ended(ran, numbers_of(end)?, &mut wanted)?;
+    assert!(rt; holds, "{end} of {answers}");
     Ok(())
+}
+
+/// Puts what a stop behind the last call of a site leaves in its place.
+fn stop_behind(site: &mut SparseSite) -> Result<(), Fail> {
+    *site = site.stopped(site.calls(), 0)?;
+    Ok(())
+}
+
+/// Puts a blank site in the place of one, of which the calls that are listed fail.
+fn make_blank(alloc: Global, site: &mut SparseSite, calls: Vec<FailingCall>) -> Result<(), Fail> {
+    *site = new_site(alloc, calls)?;
+    Ok(())
+}
+
+/// Makes a site what a line says.
+fn prepare(
+    alloc: Global,
+    site: &mut SparseSite,
+    fails: &str,
+    devices: &mut Devices,
+) -> Result<(), Fail> {
+    match fails {
+        "same" => Ok(()),
+        "next" => stop_behind(site),
+        _ => {
+            let calls = mem::replace(&mut devices.calls, Vec::new(alloc));
+            make_blank(alloc, site, calls)
+        }
+    }
+}
+
+/// The four parts of a line.
+fn parts_of(line: &str) -> Result<(&str, &str, &str, &str), Fail> {
+    let (end, rest) = line.split_once('|').ok_or("no end")?;
+    let (fails, rest) = rest.split_once('|').ok_or("no devices")?;
+    let (recording, answers) = rest.split_once('|').ok_or("no answers")?;
+    Ok((end, fails.trim(), recording, answers))
+}
+
+/// Runs a recording over what a line says.
+fn run_line(
+    alloc: Global,
+    site: &mut SparseSite,
+    fails: &str,
+    recording: &str,
+) -> Result<Ran, Fail> {
+    let mut devices = devices_of(alloc, fails)?;
+    prepare(alloc, site, fails, &mut devices)?;
+    let bytes = bytes_of(alloc, recording)?;
+    run_text(alloc, (COMMAND, ""), &bytes, devices, site)
 }
 
 /// Checks a line of `RUNS`.
@@ -183,21 +284,22 @@ fn check_line(
     site: &mut SparseSite,
     line: &str,
 ) -> Result<(), Fail> {
-    let (end, rest) = line.split_once('|').ok_or("no end")?;
-    let (fails, rest) = rest.split_once('|').ok_or("no devices")?;
-    let (recording, answers) = rest.split_once('|').ok_or("no answers")?;
-    let mut devices = devices_of(alloc, fails)?;
-    match fails.trim() {
-        "same" => {}
-        "next" => *site = site.stopped(site.calls(), 0)?,
-        _ => {
-            let calls = mem::replace(&mut devices.calls, Vec::new(alloc));
-            *site = new_site(alloc, calls)?;
-        }
+    let (end, fails, recording, answers) = parts_of(line)?;
+    let ran = run_line(alloc, site, fails, recording)?;
+    check_end(rt, alloc, &ran, end, answers)
+}
+
+/// Checks lines, each over the site that the one before leaves.
+fn check_lines(
+    rt: &impl Abort,
+    alloc: Global,
+    site: &mut SparseSite,
+    lines: &str,
+) -> Result<(), Fail> {
+    for line in lines.lines() {
+        check_line(rt, alloc, site, line)?;
     }
-    let bytes = bytes_of(alloc, recording)?;
-    let run = run_text(alloc, (COMMAND, ""), &bytes, devices, site)?;
-    check_end(rt, &run, end, bytes_of(alloc, answers)?)
+    Ok(())
 }
 
 /// Runs, one a line: the status and place that one ends with; which calls fail; the recording; and what is written before the last
@@ -258,12 +360,8 @@ const RUNS: &str = "\
 
 #[test]
 fn runs_end(rt: HostRuntime) -> Result<(), Fail> {
-    let alloc = rt.alloc();
-    let mut site = new_site(alloc, Vec::new(alloc))?;
-    for line in RUNS.lines() {
-        check_line(&rt, alloc, &mut site, line)?;
-    }
-    Ok(())
+    let mut site = new_site(rt.alloc(), Vec::new(rt.alloc()))?;
+    check_lines(&rt, rt.alloc(), &mut site, RUNS)
 }
 
 /// Commands that are refused, one a line: the status, the words, and the text of the settings.
@@ -277,15 +375,20 @@ const REFUSED: &str = "\
 1|Replay --journal j --cloud c|
 1|replay --journal j --cloud c x|";
 
+/// Runs a command with a recording of no frames.
+fn run_empty(alloc: Global, command: (&str, &str)) -> Result<Ran, Fail> {
+    let bytes = bytes_of(alloc, "raw magic; 99")?;
+    let mut site = new_site(alloc, Vec::new(alloc))?;
+    run_text(alloc, command, &bytes, Devices::new(alloc), &mut site)
+}
+
 /// That a command is refused so, and nothing is written.
 fn check_refused(rt: &impl Abort, alloc: Global, line: &str) -> Result<(), Fail> {
     let (number, rest) = line.split_once('|').ok_or("no number")?;
     let command = rest.split_once('|').ok_or("no words")?;
-    let mut site = new_site(alloc, Vec::new(alloc))?;
-    let bytes = bytes_of(alloc, "raw magic; 99")?;
-    let (status, sink) = run_text(alloc, command, &bytes, Devices::new(alloc), &mut site)?;
-    assert_eq!(rt; status.number(), number.parse::<u32>()?, "of {line}");
-    assert!(rt; sink.bytes().is_empty() && site.calls() == 0, "of {line}");
+    let ran = run_empty(alloc, command)?;
+    let holds = ran.number == number.parse::<u32>()? && ran.written.is_empty();
+    assert!(rt; holds, "of {line}");
     Ok(())
 }
 
@@ -304,18 +407,33 @@ const FOREIGN: &str = "\
 9 80|134217728|01000000 8*00 00000001 48*00 01000000 00000001 00000000 0000004c 00000048 0000000c 00000000 0000fffe 0000fffe 00000000 00000007 00000010 00000000 00000001 00000000 00000002 00000000 00000000 00000005 00000002 00000005 68656c6c 6f000000
 9 100|100|";
 
+/// Lets the disk of a site begin with these bytes.
+fn put_disk(site: &mut SparseSite, disk: &[u8]) -> Result<(), Fail> {
+    if disk.len() as u64 > site.size() || site.write_at(0, disk).is_err() {
+        return Err("not written".into());
+    }
+    Ok(())
+}
+
+/// Replays a recording of no frames over a site whose disk begins with these bytes.
+fn replay_over(alloc: Global, site: &mut SparseSite, disk: &[u8]) -> Result<Ran, Fail> {
+    put_disk(site, disk)?;
+    replay_text(alloc, "raw magic; 99", site)
+}
+
+/// The same, over a site whose disk has so many bytes.
+fn replay_sized(alloc: Global, size: u64, disk: &[u8]) -> Result<Ran, Fail> {
+    let mut site = SparseSite::new(alloc, size, Vec::new(alloc))?;
+    replay_over(alloc, &mut site, disk)
+}
+
 /// That such a disk is refused.
 fn check_foreign(rt: &impl Abort, alloc: Global, line: &str) -> Result<(), Fail> {
     let (end, rest) = line.split_once('|').ok_or("no place")?;
     let (size, words) = rest.split_once('|').ok_or("no size")?;
     let disk = bytes_of_words(alloc, words)?;
-    let mut site = SparseSite::new(alloc, size.parse::<u64>()?, Vec::new(alloc))?;
-    if disk.len() as u64 > site.size() || site.write_at(0, &disk).is_err() {
-        return Err("not written".into());
-    }
-    let bytes = bytes_of(alloc, "raw magic; 99")?;
-    let run = replay(alloc, &bytes, &mut site)?;
-    check_end(rt, &run, end, bytes_of(alloc, "raw magic")?)
+    let ran = replay_sized(alloc, size.parse::<u64>()?, &disk)?;
+    check_end(rt, alloc, &ran, end, "raw magic")
 }
 
 #[test]
@@ -326,37 +444,43 @@ fn a_foreign_disk_is_refused(rt: HostRuntime) -> Result<(), Fail> {
     Ok(())
 }
 
-/// The statuses, and what is said of them.
-static SAID: [(Status, &'static str); 3] = [
-    (Status::Words, "bluesky: status 1"),
-    (Status::Malformed { at: 8 }, "bluesky: status 2"),
-    (Status::Settings, "bluesky: status 11"),
-];
-
-#[test]
-fn a_status_is_told_by_its_number(rt: HostRuntime) -> Result<(), Fail> {
-    for (status, line) in &SAID {
-        let said = StatusLine(*status).to_string(rt.alloc())?;
-        assert_eq!(rt; said.as_str(), *line);
-    }
+/// That a status is told so.
+fn check_said(rt: &impl Abort, alloc: Global, status: Status, line: &str) -> Result<(), Fail> {
+    let said = StatusLine(status).to_string(alloc)?;
+    let holds = said.as_str() == line;
+    assert!(rt; holds, "{line}");
     Ok(())
 }
 
-/// 160 WRITEs of 65,536 bytes before a COMMIT: 10 MiB of changes that become stable together. Each answer is a frame.
 #[test]
-fn many_bytes_become_stable_at_once(rt: HostRuntime) -> Result<(), Fail> {
-    let alloc = rt.alloc();
+fn a_status_is_told_by_its_number(rt: HostRuntime) -> Result<(), Fail> {
+    check_said(&rt, rt.alloc(), Status::Words, "bluesky: status 1")?;
+    check_said(
+        &rt,
+        rt.alloc(),
+        Status::Malformed { at: 8 },
+        "bluesky: status 2",
+    )?;
+    check_said(&rt, rt.alloc(), Status::Settings, "bluesky: status 11")
+}
+
+/// The recording of 160 WRITEs of 65,536 bytes and a COMMIT.
+fn large_recording(alloc: Global) -> Result<Vec<u8>, Fail> {
     let write = bytes_of(alloc, "2 write-large")?;
     let mut bytes = bytes_of(alloc, "raw magic; 1; 2 create-a")?;
     for _ in 0..160 {
         bytes.extend_from_slice(&write)?;
     }
     bytes.extend_from_slice(&bytes_of(alloc, "2 commit-2; 99")?)?;
-    let (status, sink) = replay(alloc, &bytes, &mut new_site(alloc, Vec::new(alloc))?)?;
-    assert_eq!(rt;
-        (status, crashes::answered(sink.bytes())),
-        (Status::Done, 163)
-    );
+    Ok(bytes)
+}
+
+/// 10 MiB of changes become stable together: each call is answered, and the run is done.
+#[test]
+fn many_bytes_become_stable_at_once(rt: HostRuntime) -> Result<(), Fail> {
+    let ran = replay_blank(rt.alloc(), &large_recording(rt.alloc())?)?;
+    let holds = ran.number == 0 && crashes::answered(&ran.written) == 163;
+    assert!(rt; holds);
     Ok(())
 }
 
