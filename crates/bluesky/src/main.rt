@@ -13,6 +13,8 @@ mod frames;
 mod infallible;
 mod laws;
 mod run;
+#[cfg(test)]
+mod tests;
 mod words;
 
 pub use infallible::run_infallible;
