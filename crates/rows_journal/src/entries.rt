@@ -32,9 +32,7 @@ fn place(alloc: Global, at: &DirOpArgs) -> Result<String, Fault> {
 /// A call that makes an object, as text.
 fn made(alloc: Global, call: &Call) -> Result<String, Fault> {
     let text = match call {
-        Call::Create { at, how } => {
-            format!(in alloc; "CREATE {} {how:?}", place(alloc, at)?)?
-        }
+        Call::Create { at, how } => { format!(in alloc; "CREATE {} {how:?}", place(alloc, at)?)? }
         Call::Mkdir { at, attributes } => {
             format!(in alloc; "MKDIR {} {attributes:?}", place(alloc, at)?)?
         }

@@ -52,4 +52,3 @@ impl From<ParseIntError> for Fault {
         Fault::Unread
     }
 }
-

@@ -57,10 +57,7 @@ pub fn is_framed(entry: &[u8]) -> bool
 }
 
 /// Appends an entry. `None` where no area is open.
-pub fn append<S: Site>(
-    kept: Kept<S>,
-    entry: &[u8],
-) -> (Kept<S>, Option<Result<(), AppendFault>>)
+pub fn append<S: Site>(kept: Kept<S>, entry: &[u8]) -> (Kept<S>, Option<Result<(), AppendFault>>)
     requires { IsFramed entry.now }
 {
     let Kept { site, mut journal } = kept;
@@ -134,5 +131,7 @@ pub fn state_text(alloc: Global, journal: &Journal) -> Result<String, Fault> {
     let base = journal.base();
     let (stored, last) = (journal.stored(), journal.last());
     let (room, two) = (journal.room(), journal.two_open());
-    Ok(format!(in alloc; "base {base:?}, stored {stored}, last {last}, room {room}, two open {two}")?)
+    Ok(format!(in alloc;
+        "base {base:?}, stored {stored}, last {last}, room {room}, two open {two}"
+    )?)
 }

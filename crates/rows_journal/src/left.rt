@@ -63,11 +63,7 @@ fn site_text(
 }
 
 /// The entries of a site's journal.
-fn journal_text(
-    alloc: Global,
-    settled: Settled<MemSite>,
-    how: Reading,
-) -> Result<String, Fault> {
+fn journal_text(alloc: Global, settled: Settled<MemSite>, how: Reading) -> Result<String, Fault> {
     match opened(alloc, settled, how) {
         Ok(kept) => entries_of(alloc, kept),
         Err((_, fault)) => Ok(format!(in alloc; "{fault:?}")?),
@@ -132,7 +128,15 @@ pub fn stops_text(
 ) -> Result<String, Fault> {
     let mut text = String::new(alloc);
     for call in from..site.calls() {
-        add_stops(alloc, &mut text, site, call, call.saturating_sub(from), name, look)?;
+        add_stops(
+            alloc,
+            &mut text,
+            site,
+            call,
+            call.saturating_sub(from),
+            name,
+            look,
+        )?;
     }
     let left = left_text(alloc, site, site.calls(), 0, look)?;
     text.push_str(&format!(in alloc; "behind: {left}")?)?;

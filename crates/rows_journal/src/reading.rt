@@ -58,11 +58,7 @@ fn read_with<D: Disk, G: Grammar>(
 }
 
 /// The journal of a disk on which nothing is pending.
-pub fn read_by<D: Disk>(
-    alloc: Global,
-    disk: &mut D,
-    how: Reading,
-) -> Result<Journal, JournalFault>
+pub fn read_by<D: Disk>(alloc: Global, disk: &mut D, how: Reading) -> Result<Journal, JournalFault>
     requires { NothingPending D.Storage disk.old }
     ensures up { IfOk result (λ j. j.down ≡ false) }
     ensures stands { IfOk result (λ j. StandsOn D.Storage j disk.new) }
@@ -86,11 +82,7 @@ fn entry_text(alloc: Global, number: u64, entry: &[u8]) -> Result<String, Fault>
 }
 
 /// The entries that a disk has, of which not more than nine are read.
-fn entries_on<D: Disk>(
-    alloc: Global,
-    journal: &Journal,
-    disk: &mut D,
-) -> Result<String, Fault>
+fn entries_on<D: Disk>(alloc: Global, journal: &Journal, disk: &mut D) -> Result<String, Fault>
     requires { D.bytes_of disk.old ≡ journal.now.disk }
 {
     let mut text = format!(in alloc; "reads")?;

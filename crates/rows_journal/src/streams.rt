@@ -143,11 +143,7 @@ fn write_sure_sink(alloc: Global, words: &mut Words<'_>) -> Result<String, Fault
 }
 
 /// The answer to a row.
-pub fn asked(
-    alloc: Global,
-    streams: &mut Streams,
-    words: &mut Words<'_>,
-) -> Result<String, Fault> {
+pub fn asked(alloc: Global, streams: &mut Streams, words: &mut Words<'_>) -> Result<String, Fault> {
     match words.word()? {
         "source" => begin_source(alloc, streams, words),
         "sure-source" => begin_sure_source(alloc, streams, words),
