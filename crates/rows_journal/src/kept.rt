@@ -64,8 +64,10 @@ pub fn append<S: Site>(kept: Kept<S>, entry: &[u8]) -> (Kept<S>, Option<Result<(
     if journal.base().is_none() {
         return (Kept { site, journal }, None);
     }
-    let given = journal.append(entry);
-    (Kept { site, journal }, Some(given))
+    match journal.append(entry) {
+        Ok(()) => (Kept { site, journal }, Some(Ok(()))),
+        Err(fault) => (Kept { site, journal }, Some(Err(fault))),
+    }
 }
 
 /// Commits. Where the disk fails the site is given back.
