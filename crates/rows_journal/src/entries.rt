@@ -8,7 +8,7 @@ use crate::fault::Fault;
 use crate::text::shown;
 use crate::words::Words;
 use sky_entry::{EntryFault, entry_length, read_entry, write_entry};
-use sky_nfs::{Call, Change, DirOpArgs};
+use sky_nfs::{Call, Change, CreateHow, DirOpArgs, SetAttr};
 use std::alloc::Global;
 
 /// The change with whose entry bytes begin, and how many bytes it has.
@@ -29,42 +29,67 @@ fn place(alloc: Global, at: &DirOpArgs) -> Result<String, Fault> {
     Ok(format!(in alloc; "{directory} {name}")?)
 }
 
+/// A CREATE, as text.
+fn create(alloc: Global, at: &DirOpArgs, how: &CreateHow) -> Result<String, Fault> {
+    let at = place(alloc, at)?;
+    Ok(format!(in alloc; "CREATE {at} {how:?}")?)
+}
+
+/// A MKDIR, as text.
+fn mkdir(alloc: Global, at: &DirOpArgs, attributes: &SetAttr) -> Result<String, Fault> {
+    let at = place(alloc, at)?;
+    Ok(format!(in alloc; "MKDIR {at} {attributes:?}")?)
+}
+
+/// A SYMLINK, as text.
+fn symlink(
+    alloc: Global,
+    at: &DirOpArgs,
+    attributes: &SetAttr,
+    target: &[u8],
+) -> Result<String, Fault> {
+    let at = place(alloc, at)?;
+    let target = shown(alloc, target)?;
+    Ok(format!(in alloc; "SYMLINK {at} {attributes:?} {target}")?)
+}
+
 /// A call that makes an object, as text.
 fn made(alloc: Global, call: &Call) -> Result<String, Fault> {
-    let text = match call {
-        Call::Create { at, how } => { format!(in alloc; "CREATE {} {how:?}", place(alloc, at)?)? }
-        Call::Mkdir { at, attributes } => {
-            format!(in alloc; "MKDIR {} {attributes:?}", place(alloc, at)?)?
-        }
+    match call {
+        Call::Create { at, how } => create(alloc, at, how),
+        Call::Mkdir { at, attributes } => mkdir(alloc, at, attributes),
         Call::Symlink {
             at,
             attributes,
             text,
-        } => {
-            let target = shown(alloc, text.as_slice())?;
-            format!(in alloc; "SYMLINK {} {attributes:?} {target}", place(alloc, at)?)?
-        }
-        _ => format!(in alloc; "another call")?,
-    };
-    Ok(text)
+        } => symlink(alloc, at, attributes, text.as_slice()),
+        _ => Ok(format!(in alloc; "another call")?),
+    }
+}
+
+/// A RENAME, as text.
+fn rename(alloc: Global, from: &DirOpArgs, to: &DirOpArgs) -> Result<String, Fault> {
+    let from = place(alloc, from)?;
+    let to = place(alloc, to)?;
+    Ok(format!(in alloc; "RENAME {from} {to}")?)
+}
+
+/// A LINK, as text.
+fn link(alloc: Global, file: &[u8], at: &DirOpArgs) -> Result<String, Fault> {
+    let file = shown(alloc, file)?;
+    let at = place(alloc, at)?;
+    Ok(format!(in alloc; "LINK {file} {at}")?)
 }
 
 /// A call that changes names, as text.
 fn named(alloc: Global, call: &Call) -> Result<String, Fault> {
-    let text = match call {
-        Call::Remove { at } => format!(in alloc; "REMOVE {}", place(alloc, at)?)?,
-        Call::Rmdir { at } => format!(in alloc; "RMDIR {}", place(alloc, at)?)?,
-        Call::Rename { from, to } => {
-            let from = place(alloc, from)?;
-            format!(in alloc; "RENAME {from} {}", place(alloc, to)?)?
-        }
-        Call::Link { file, at } => {
-            let file = shown(alloc, file.as_bytes())?;
-            format!(in alloc; "LINK {file} {}", place(alloc, at)?)?
-        }
-        other => made(alloc, other)?,
-    };
-    Ok(text)
+    match call {
+        Call::Remove { at } => Ok(format!(in alloc; "REMOVE {}", place(alloc, at)?)?),
+        Call::Rmdir { at } => Ok(format!(in alloc; "RMDIR {}", place(alloc, at)?)?),
+        Call::Rename { from, to } => rename(alloc, from, to),
+        Call::Link { file, at } => link(alloc, file.as_bytes(), at),
+        other => made(alloc, other),
+    }
 }
 
 /// A call, as text.

@@ -6,6 +6,7 @@ use crate::kept;
 use crate::kept::{Kept, is_framed, state_text};
 use crate::stage::Stage;
 use crate::words::Words;
+use sky_journal::{AppendFault, JournalFault};
 use sky_memory::MemSite;
 use std::alloc::Global;
 
@@ -34,16 +35,43 @@ fn after(
     }
 }
 
+/// A site on which no journal was read.
+fn unread(
+    alloc: Global,
+    stage: &mut Stage,
+    site: MemSite,
+    fault: JournalFault,
+) -> Result<String, Fault> {
+    *stage = Stage::Loose(site);
+    Ok(format!(in alloc; "{fault:?}")?)
+}
+
+/// A call that may not be made now: the journal is as it was.
+fn unasked(stage: &mut Stage, kept: Kept<MemSite>) -> Result<String, Fault> {
+    *stage = Stage::Kept(kept);
+    Err(Fault::Unasked)
+}
+
 /// Reads the journal of a site on which nothing is pending.
 fn open(alloc: Global, stage: &mut Stage, words: &mut Words<'_>) -> Result<String, Fault> {
     let how = reading_of(words)?;
     let settled = stage.take().into_settled()?;
     match kept::opened(alloc, settled, how) {
         Ok(kept) => went(alloc, stage, kept),
-        Err((site, fault)) => {
-            *stage = Stage::Loose(site);
-            Ok(format!(in alloc; "{fault:?}")?)
-        }
+        Err((site, fault)) => unread(alloc, stage, site, fault),
+    }
+}
+
+/// What an append answers, before what the journal tells of itself.
+fn appended(
+    alloc: Global,
+    given: Option<Result<(), AppendFault>>,
+    text: &str,
+) -> Result<String, Fault> {
+    match given {
+        Some(Ok(())) => Ok(format!(in alloc; "ok; {text}")?),
+        Some(Err(fault)) => Ok(format!(in alloc; "{fault:?}; {text}")?),
+        None => Err(Fault::Unasked),
     }
 }
 
@@ -56,11 +84,7 @@ fn append(alloc: Global, stage: &mut Stage, words: &mut Words<'_>) -> Result<Str
     let (kept, given) = kept::append(stage.take().into_kept()?, &entry);
     let text = state_text(alloc, &kept.journal)?;
     *stage = Stage::Kept(kept);
-    match given {
-        Some(Ok(())) => Ok(format!(in alloc; "ok; {text}")?),
-        Some(Err(fault)) => Ok(format!(in alloc; "{fault:?}; {text}")?),
-        None => Err(Fault::Unasked),
-    }
+    appended(alloc, given, &text)
 }
 
 /// Opens the free area behind an entry.
@@ -68,10 +92,7 @@ fn rotate(alloc: Global, stage: &mut Stage, words: &mut Words<'_>) -> Result<Str
     let base = words.long()?;
     match kept::rotate(stage.take().into_kept()?, base) {
         Ok((kept, true)) => went(alloc, stage, kept),
-        Ok((kept, false)) => {
-            *stage = Stage::Kept(kept);
-            Err(Fault::Unasked)
-        }
+        Ok((kept, false)) => unasked(stage, kept),
         Err(site) => fell(alloc, stage, site),
     }
 }

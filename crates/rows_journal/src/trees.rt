@@ -11,6 +11,7 @@ use crate::words::Words;
 use sky_calls::Outcome;
 use sky_memory::MemSite;
 use sky_nfs::{Answer, Refused};
+use sky_recover::{OpenFault, Opened};
 use std::alloc::Global;
 
 /// What the tree's journal tells behind a call that went well.
@@ -44,19 +45,35 @@ fn plant(alloc: Global, stage: &mut Stage, words: &mut Words<'_>) -> Result<Stri
     Ok(format!(in alloc; "ok; {text}")?)
 }
 
+/// A volume that was opened.
+fn found(
+    alloc: Global,
+    stage: &mut Stage,
+    tree: Durable<MemSite>,
+    opened: Opened,
+) -> Result<String, Fault> {
+    let text = went(alloc, stage, tree)?;
+    Ok(format!(in alloc; "{opened:?}; {text}")?)
+}
+
+/// A site whose volume was not opened.
+fn refused(
+    alloc: Global,
+    stage: &mut Stage,
+    site: MemSite,
+    fault: OpenFault,
+) -> Result<String, Fault> {
+    *stage = Stage::Loose(site);
+    Ok(format!(in alloc; "{fault:?}")?)
+}
+
 /// Opens the volume of a site on which nothing is pending.
 fn open(alloc: Global, stage: &mut Stage, words: &mut Words<'_>) -> Result<String, Fault> {
     let settings = settings_of(words)?;
     let settled = stage.take().into_settled()?;
     match durable::recovered(alloc, settled, &settings) {
-        Ok((tree, opened)) => {
-            let text = went(alloc, stage, tree)?;
-            Ok(format!(in alloc; "{opened:?}; {text}")?)
-        }
-        Err((site, fault)) => {
-            *stage = Stage::Loose(site);
-            Ok(format!(in alloc; "{fault:?}")?)
-        }
+        Ok((tree, opened)) => found(alloc, stage, tree, opened),
+        Err((site, fault)) => refused(alloc, stage, site, fault),
     }
 }
 
