@@ -1,0 +1,30 @@
+//! A turn at a plain number, to which each entry adds.
+use crate::pass::Pass;
+use crate::stands::Stands;
+use crate::turn::Turn;
+use std::sync::Wait;
+
+/// A number modulo 2^64.
+#[derive(Drop)]
+pub struct Sum {
+    pub value: u64,
+}
+
+impl Stands for Sum {
+    type Entry = u64;
+    type First = u64;
+
+    ghost use Rattle.sky_turn.specs.Adding.{is_sum};
+
+    ghost first = { λ it. it.value };
+
+    ghost stands = { λ first entries it. is_sum first entries it.value };
+}
+
+/// Adds in a turn of its own, and answers the place of the entry.
+pub fn add<R: Wait>(rt: &R, turn: &Turn<Sum>, pass: Pass<Sum>, amount: u64) -> (Pass<Sum>, u64) {
+    let mut turned = turn.take(rt, pass);
+    let place = turned.draw(&amount);
+    turned.value.value = turned.value.value.wrapping_add(amount);
+    (turn.give(turned), place)
+}
