@@ -5,3 +5,4 @@ pub mod Keeps
 pub mod Turns
 pub mod Doors
 pub mod Meets
+pub mod Steps

@@ -1,5 +1,7 @@
 -- What clauses see of a pass.
-use Rattle.std.specs.Prelude.{◌≡◌, ◌⊎◌, ℕ, List, [], ◌∷◌, Bool, true, false, Option, Some, None}
+use Rattle.std.specs.Prelude.{◌≡◌, ◌⊎◌, ℕ, List, [], ◌∷◌, Bool, true, false, Option, Some, None, IfSome}
+use mathlib.Core.List.{IsPrefix}
+use Rattle.atomic_table.specs.Table.{Me}
 use Rattle.atomic_table.specs.Seated.{TableId}
 use Rattle.atomic_table.specs.declared.shared.Seat.{Seat}
 use Rattle.sky_turn.specs.declared.view.Entered.{Entered}
@@ -8,7 +10,7 @@ use Rattle.sky_turn.specs.declared.view.Asked.{Asked}
 use Rattle.sky_turn.specs.declared.view.Stage.{Stage}
 use Rattle.sky_turn.specs.declared.view.Stage.TheVariants.{Idle, Waiting, Called, Holding, Drew, Back}
 use Rattle.sky_turn.specs.declared.view.Door.TheVariants.{Shut}
-use Rattle.sky_turn.specs.History.{own_of}
+use Rattle.sky_turn.specs.History.{entries_of, own_of}
 
 -- a pass: its turn, its number, the first state, what of the history it has seen, its own entries in that, and what its last `enter` found
 pub record Known (E F : Type 0) : Type 0 where
@@ -45,17 +47,32 @@ module _ {V E F : Type 0} where
   holding s = record { pass = known s; drawn = has_drawn s.me.0.stage }
 
   -- between two turns it holds no slot
-  pub record IsAtRest (s : Seat (Option V) (View E F)) (number callers : ℕ) : Type 0 where
-    pub whole : IsWhole s.me.0
-    pub stage : s.me.0.stage ≡ Idle
-    pub slots : s.me.1 ≡ []
-    pub number_is : s.me.0.number ≡ number
-    pub callers_is : s.me.0.callers ≡ callers
+  abbrev pub IsIdle : Seat (Option V) (View E F) → Type 0
+  IsIdle s = IsWhole s.me.0 × (s.me.0.stage ≡ Idle) × (s.me.1 ≡ [])
 
-  -- in its turn it holds the slot, whose value is with the caller
-  pub record IsHolding (s : Seat (Option V) (View E F)) (number callers : ℕ) : Type 0 where
-    pub whole : IsWhole s.me.0
-    pub stage : (s.me.0.stage ≡ Holding) ⊎ (s.me.0.stage ≡ Drew)
-    pub slots : s.me.1 ≡ (0, None) ∷ []
-    pub number_is : s.me.0.number ≡ number
-    pub callers_is : s.me.0.callers ≡ callers
+  -- in its turn it holds the slot, whose value is with the caller, and has drawn nothing
+  abbrev pub IsOut : Seat (Option V) (View E F) → Type 0
+  IsOut s = IsWhole s.me.0 × (s.me.0.stage ≡ Holding) × (s.me.1 ≡ (0, None) ∷ [])
+
+  -- the same, whether it has drawn or not
+  abbrev pub IsHeld : Seat (Option V) (View E F) → Type 0
+  IsHeld s = IsWhole s.me.0 × ((s.me.0.stage ≡ Holding) ⊎ (s.me.0.stage ≡ Drew)) × (s.me.1 ≡ (0, None) ∷ [])
+
+  abbrev pub IsAtRest : Seat (Option V) (View E F) → ℕ → ℕ → Type 0
+  IsAtRest s number callers = IsIdle s × (s.me.0.number ≡ number) × (s.me.0.callers ≡ callers)
+
+  abbrev pub IsHolding : Seat (Option V) (View E F) → ℕ → ℕ → Type 0
+  IsHolding s number callers = IsHeld s × (s.me.0.number ≡ number) × (s.me.0.callers ≡ callers)
+
+  -- the seat is one of this turn, whose table has five words and one slot
+  abbrev pub IsAt : TableId → Seat (Option V) (View E F) → Type 0
+  IsAt z s = (s.table_id ≡ z) × (z.words ≡ 5) × (z.slots ≡ 1)
+
+  abbrev pub IsSame : Seat (Option V) (View E F) → Seat (Option V) (View E F) → Type 0
+  IsSame s t = (t.table_id ≡ s.table_id) × (t.id ≡ s.id)
+
+  -- the value is out with the seat, and stands for the history, which begins with what was seen and has no other entries of the pass
+  abbrev pub IsTaken : (F → List E → V → Type 0) → Me (Option V) (View E F) → Me (Option V) (View E F) → Type 0
+  IsTaken stands m m' =
+      (x : V) × (m' ≡ (record m.0 { stage = Holding; seen = m'.0.seen }, (0, Some x) ∷ [])) × IsPrefix m.0.seen m'.0.seen
+      × (m.0.own ≡ own_of m.0.number m'.0.seen) × IfSome m.0.first (λ first. stands first (entries_of m'.0.seen) x)

@@ -5,6 +5,7 @@ mod law;
 mod pass;
 mod plays;
 mod stands;
+mod steps;
 mod sum;
 mod turn;
 mod view;

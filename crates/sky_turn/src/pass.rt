@@ -1,3 +1,5 @@
+ghost use Rattle.std.specs.Prelude.{◌≡◌};
+
 use crate::law::{Place, Top};
 use crate::stands::Stands;
 use std::marker::Model;
@@ -54,4 +56,5 @@ pub struct Turned<'a, V: Stands> {
     pub value: V,
     pub held: Held<V>,
     pub(crate) table: &'a Top<V>,
+    pub ghost same: { (held.pass.turn ≡ table.now.table_id) × (table.now.table_id.words ≡ 5) × (table.now.table_id.slots ≡ 1) },
 }

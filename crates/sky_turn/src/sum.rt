@@ -1,4 +1,8 @@
 //! A turn at a plain number, to which each entry adds.
+ghost use Rattle.std.specs.Prelude.{◌≡◌, ◌%◌, ◌^◌, [], ◌∷◌, ◌++◌, length};
+ghost use mathlib.Core.List.{IsPrefix};
+ghost use Rattle.sky_turn.specs.History.{entered};
+
 use crate::pass::Pass;
 use crate::stands::Stands;
 use crate::turn::Turn;
@@ -22,7 +26,10 @@ impl Stands for Sum {
 }
 
 /// Adds in a turn of its own, and answers the place of the entry.
-pub fn add<R: Wait>(rt: &R, turn: &Turn<Sum>, pass: Pass<Sum>, amount: u64) -> (Pass<Sum>, u64) {
+pub fn add<R: Wait>(rt: &R, turn: &Turn<Sum>, pass: Pass<Sum>, amount: u64) -> (Pass<Sum>, u64)
+    requires turn { pass.turn ≡ turn.now }
+    ensures seen { (before : _) × IsPrefix pass.seen before × (result.1 ≡ length before % 2 ^ 64) × (result.0 ≡ record pass { seen = before ++ entered pass.number amount ∷ []; own = pass.own ++ amount ∷ [] }) }
+{
     let mut turned = turn.take(rt, pass);
     let place = turned.draw(&amount);
     turned.value.value = turned.value.value.wrapping_add(amount);
