@@ -49,7 +49,9 @@ module _ {E F V : Type 0} (stands : F → List E → V → Type 0) (callers : �
       let o0 : is_over v.door ≡ is_over d = ap is_over is ∙ sym ov in
       let bound = few_enter stands callers first s r in
       let kl = keep stands callers first s r id v w at lives refl in record {
-        log = r.log; serving = r.serving; base = r.base;
+        log = r.log;
+        serving = r.serving;
+        base = r.base;
         words = put3 (λ n. (n + 1) % 2 ^ 64) s.words _ _ _ _ _ (r.serving + total waits (set s.views id w)) r.serving (length r.log) (total lives (set s.views id w) + total enters (set s.views id w)) (r.base + total overs (set s.views id w)) r.words
             (λ j. r.serving + sym (keep stands callers first s r id v w at waits refl) j) refl refl
             (add_small (total lives s.views + total enters s.views) (omega arith) ∙ (let x : total lives s.views + total enters s.views + 1 ≡ total lives (set s.views id w) + total enters (set s.views id w) = omega arith in x))
@@ -60,9 +62,14 @@ module _ {E F V : Type 0} (stands : F → List E → V → Type 0) (callers : �
         tickets = keep_tickets stands callers first s r id v w at (λ k. refl) refl;
         place = keep_place stands callers first s r id v w at refl;
         each = keep_each stands callers first s r id v w at (record {
-          seen = old.seen; told = old.told; own = old.own;
+          seen = old.seen;
+          told = old.told;
+          own = old.own;
           alive = (old.alive.0, old.alive.1, omega arith);
-          about = old.about; served = old.served; holder = old.holder; fresh = λ h. absurd (omega arith);
+          about = old.about;
+          served = old.served;
+          holder = old.holder;
+          fresh = λ h. absurd (omega arith);
         });
       }
 
@@ -74,8 +81,8 @@ module _ {E F V : Type 0} (stands : F → List E → V → Type 0) (callers : �
       let same : v.callers ≡ callers = ((r.each id v at).about (omega arith)).1 in
       let le : total roomy s.views ≤ total enters s.views = total_le roomy enters s.views (λ i u there. room_entering u.door) in
       dite (dec_le v.callers n)
-        (λ l. (at_door v Refused a, keeps, tt, knock_to s r id v at Refused a is live refl refl refl (let f = r.few in omega arith), ((λ lt. absurd (omega arith)), (λ _. refl))))
-        (λ nl. let lt : n < v.callers = lt_of_not-le nl in (at_door v Knocking a, keeps, tt, knock_to s r id v at Knocking a is live refl refl refl (omega arith), ((λ _. refl), (λ l. absurd (omega arith)))))
+      (λ l. (at_door v Refused a, keeps, tt, knock_to s r id v at Refused a is live refl refl refl (let f = r.few in omega arith), ((λ lt. absurd (omega arith)), (λ _. refl))))
+      (λ nl. let lt : n < v.callers = lt_of_not-le nl in (at_door v Knocking a, keeps, tt, knock_to s r id v at Knocking a is live refl refl refl (omega arith), ((λ _. refl), (λ l. absurd (omega arith)))))
 
   pub turns_away : (slots id : ℕ) (st : Step (Option V)) (v : View E F) (c : List (ℕ × Option V)) → v.door ≡ Refused → Allows Rule slots id (v, c) 3 (λ n. (n + (2 ^ 64 - 1)) % 2 ^ 64) (turned_away st (v, c))
   turns_away slots id st v c is s r deep at low =
@@ -89,11 +96,13 @@ module _ {E F V : Type 0} (stands : F → List E → V → Type 0) (callers : �
         keeps,
         tt,
         record {
-          log = r.log; serving = r.serving; base = r.base;
+          log = r.log;
+          serving = r.serving;
+          base = r.base;
           words = put3 (λ n. (n + (2 ^ 64 - 1)) % 2 ^ 64) s.words _ _ _ _ _ (r.serving + total waits (set s.views id w)) r.serving (length r.log) (total lives (set s.views id w) + total enters (set s.views id w)) (r.base + total overs (set s.views id w)) r.words
               (λ j. r.serving + sym (keep stands callers first s r id v w at waits refl) j) refl refl
               (let x : total lives s.views + total enters s.views ≡ total lives (set s.views id w) + total enters (set s.views id w) + 1 = omega arith in
-               ap (λ (n : ℕ). (n + (2 ^ 64 - 1)) % 2 ^ 64) x ∙ sub_small (total lives (set s.views id w) + total enters (set s.views id w)) (omega arith))
+              ap (λ (n : ℕ). (n + (2 ^ 64 - 1)) % 2 ^ 64) x ∙ sub_small (total lives (set s.views id w) + total enters (set s.views id w)) (omega arith))
               (λ j. r.base + sym (keep stands callers first s r id v w at overs (ap is_over is)) j);
           few = (let b = r.few in let k = keep stands callers first s r id v w at roomy (ap has_room is) in omega arith, r.few.1);
           given = (r.given.0, (λ (h : 0 < total overs (set s.views id w)). r.given.1 (let b = keep stands callers first s r id v w at overs (ap is_over is) in omega arith)));
@@ -101,9 +110,14 @@ module _ {E F V : Type 0} (stands : F → List E → V → Type 0) (callers : �
           tickets = keep_tickets stands callers first s r id v w at (λ k. refl) refl;
           place = keep_place stands callers first s r id v w at refl;
           each = keep_each stands callers first s r id v w at (record {
-            seen = old.seen; told = old.told; own = old.own;
+            seen = old.seen;
+            told = old.told;
+            own = old.own;
             alive = (old.alive.0, old.alive.1, omega arith);
-            about = old.about; served = old.served; holder = old.holder; fresh = λ h. absurd (omega arith);
+            about = old.about;
+            served = old.served;
+            holder = old.holder;
+            fresh = λ h. absurd (omega arith);
           });
         },
         refl,
@@ -123,22 +137,29 @@ module _ {E F V : Type 0} (stands : F → List E → V → Type 0) (callers : �
         keeps,
         tt,
         record {
-          log = r.log; serving = r.serving; base = r.base;
+          log = r.log;
+          serving = r.serving;
+          base = r.base;
           words = put4 (λ n. (n + (2 ^ 64 - 1)) % 2 ^ 64) s.words _ _ _ _ _ (r.serving + total waits (set s.views id w)) r.serving (length r.log) (total lives (set s.views id w) + total enters (set s.views id w)) (r.base + total overs (set s.views id w)) r.words
               (λ j. r.serving + sym (keep stands callers first s r id v w at waits refl) j) refl refl
               (λ j. sym kl j + sym (keep stands callers first s r id v w at enters (ap is_entering is)) j)
               (let x : r.base + total overs s.views ≡ r.base + total overs (set s.views id w) + 1 = omega arith in
-               let g = r.given.0 in
-               ap (λ (n : ℕ). (n + (2 ^ 64 - 1)) % 2 ^ 64) x ∙ sub_small (r.base + total overs (set s.views id w)) (omega arith));
+              let g = r.given.0 in
+              ap (λ (n : ℕ). (n + (2 ^ 64 - 1)) % 2 ^ 64) x ∙ sub_small (r.base + total overs (set s.views id w)) (omega arith));
           few = (let b = r.few in omega arith, r.few.1);
           given = (r.given.0, (λ (h : 0 < total overs (set s.views id w)). r.given.1 (omega arith)));
           numbers = keep_numbers stands callers first s r id v w at (door_parts v Refused (ap has_next is));
           tickets = keep_tickets stands callers first s r id v w at (λ k. refl) refl;
           place = keep_place stands callers first s r id v w at refl;
           each = keep_each stands callers first s r id v w at (record {
-            seen = old.seen; told = old.told; own = old.own;
+            seen = old.seen;
+            told = old.told;
+            own = old.own;
             alive = (old.alive.0, old.alive.1, subst (λ (d : Door). is_entering d ≤ v.live) is old.alive.2);
-            about = old.about; served = old.served; holder = old.holder; fresh = λ h. absurd (omega arith);
+            about = old.about;
+            served = old.served;
+            holder = old.holder;
+            fresh = λ h. absurd (omega arith);
           });
         },
         refl,
@@ -156,65 +177,81 @@ module _ {E F V : Type 0} (stands : F → List E → V → Type 0) (callers : �
       let o0 : is_over v.door ≡ 0 = ap is_over is in
       let ent : 1 ≤ v.live = subst (λ (d : Door). is_entering d ≤ v.live) is old.alive.2 in
       dite (dec_le (2 ^ 62) n)
-        (λ l.
-            let w : View E F = record v { door = Over; asked = a } in
-            let to = total_set overs s.views id v w at in
-            let full : r.base ≡ 2 ^ 62 = dite (dec_le 1 (total overs s.views)) (λ h. r.given.1 h) (λ h. omega arith) in (
-              w,
-              keeps,
-              tt,
-              record {
-                log = r.log; serving = r.serving; base = r.base;
-                words = put4 (λ k. (k + 1) % 2 ^ 64) s.words _ _ _ _ _ (r.serving + total waits (set s.views id w)) r.serving (length r.log) (total lives (set s.views id w) + total enters (set s.views id w)) (r.base + total overs (set s.views id w)) r.words
-                    (λ j. r.serving + sym (keep stands callers first s r id v w at waits refl) j) refl refl
-                    (λ j. sym (keep stands callers first s r id v w at lives refl) j + sym (keep stands callers first s r id v w at enters (ap is_entering is)) j)
-                    (add_small (r.base + total overs s.views) (omega arith) ∙ (let x : r.base + total overs s.views + 1 ≡ r.base + total overs (set s.views id w) = omega arith in x));
-                few = (let b = r.few in let k = keep stands callers first s r id v w at roomy (ap has_room is) in let kl = keep stands callers first s r id v w at lives refl in omega arith, r.few.1);
-                given = (g0, (λ h. full));
-                numbers = keep_numbers stands callers first s r id v w at (door_parts v Over n0);
-                tickets = keep_tickets stands callers first s r id v w at (λ k. refl) refl;
-                place = keep_place stands callers first s r id v w at refl;
-                each = keep_each stands callers first s r id v w at (record {
-                  seen = old.seen; told = old.told; own = old.own; alive = (old.alive.0, old.alive.1, ent);
-                  about = old.about; served = old.served; holder = old.holder; fresh = λ h. absurd (omega arith);
-                });
-              },
-              ((λ lt. absurd (omega arith)), (λ _. refl)),
-            ))
-        (λ nl.
-            let lt : n < 2 ^ 62 = lt_of_not-le nl in
-            let w : View E F = record v { door = Numbered; next = n; asked = a } in
-            let no_over : total overs s.views ≡ 0 = dite (dec_le 1 (total overs s.views)) (λ h. absurd (let z = r.given.1 h in omega arith)) (λ h. omega arith) in
-            let is_base : n ≡ r.base = omega arith in
-            let ko = keep stands callers first s r id v w at overs o0 in
-            let mine = number_given stands callers first s r id v at (omega arith) in
-            let none = ((r.numbers n).1 (omega arith)).1 in (
-              w,
-              keeps,
-              tt,
-              record {
-                log = r.log; serving = r.serving; base = r.base + 1;
-                words = put4 (λ k. (k + 1) % 2 ^ 64) s.words _ _ _ _ _ (r.serving + total waits (set s.views id w)) r.serving (length r.log) (total lives (set s.views id w) + total enters (set s.views id w)) (r.base + 1 + total overs (set s.views id w)) r.words
-                    (λ j. r.serving + sym (keep stands callers first s r id v w at waits refl) j) refl refl
-                    (λ j. sym (keep stands callers first s r id v w at lives refl) j + sym (keep stands callers first s r id v w at enters (ap is_entering is)) j)
-                    (add_small (r.base + total overs s.views) (omega arith) ∙ (let x : r.base + total overs s.views + 1 ≡ r.base + 1 + total overs (set s.views id w) = omega arith in x));
-                few = (let b = r.few in let k = keep stands callers first s r id v w at roomy (ap has_room is) in let kl = keep stands callers first s r id v w at lives refl in omega arith, r.few.1);
-                given = (omega arith, (λ (h : 0 < total overs (set s.views id w)). absurd (omega arith)));
-                numbers = λ k. (let t = total_set (parts_of k) s.views id v w at in
-                    let z : where_is v.next k (has_next v.door) ≡ 0 = ap (where_is v.next k) n0 ∙ where_none v.next k in
-                    dite (ℕ_discrete n k)
-                      (λ e. let two = where_same n k 2 e in let no = ((r.numbers k).1 (omega arith)).0 in (omega arith, (λ h. absurd (omega arith))))
-                      (λ ne. let zero = where_other n k 2 ne in let was = r.numbers k in
-                          (omega arith, (λ h. let no = was.1 (omega arith) in (omega arith, no.1)))));
-                tickets = keep_tickets stands callers first s r id v w at (λ k. refl) refl;
-                place = keep_place stands callers first s r id v w at refl;
-                each = keep_each stands callers first s r id v w at (record {
-                  seen = old.seen; told = old.told; own = old.own; alive = (old.alive.0, old.alive.1, ent);
-                  about = old.about; served = old.served; holder = old.holder; fresh = λ h. none;
-                });
-              },
-              ((λ _. (refl, (λ same. absurd (let x : n ≡ v.number = same in omega arith)), own_none n v.seen r.log old.seen none)), (λ l. absurd (omega arith))),
-            ))
+      (λ l.
+      let w : View E F = record v { door = Over; asked = a } in
+      let to = total_set overs s.views id v w at in
+      let full : r.base ≡ 2 ^ 62 = dite (dec_le 1 (total overs s.views)) (λ h. r.given.1 h) (λ h. omega arith) in (
+        w,
+        keeps,
+        tt,
+        record {
+          log = r.log;
+          serving = r.serving;
+          base = r.base;
+          words = put4 (λ k. (k + 1) % 2 ^ 64) s.words _ _ _ _ _ (r.serving + total waits (set s.views id w)) r.serving (length r.log) (total lives (set s.views id w) + total enters (set s.views id w)) (r.base + total overs (set s.views id w)) r.words
+              (λ j. r.serving + sym (keep stands callers first s r id v w at waits refl) j) refl refl
+              (λ j. sym (keep stands callers first s r id v w at lives refl) j + sym (keep stands callers first s r id v w at enters (ap is_entering is)) j)
+              (add_small (r.base + total overs s.views) (omega arith) ∙ (let x : r.base + total overs s.views + 1 ≡ r.base + total overs (set s.views id w) = omega arith in x));
+          few = (let b = r.few in let k = keep stands callers first s r id v w at roomy (ap has_room is) in let kl = keep stands callers first s r id v w at lives refl in omega arith, r.few.1);
+          given = (g0, (λ h. full));
+          numbers = keep_numbers stands callers first s r id v w at (door_parts v Over n0);
+          tickets = keep_tickets stands callers first s r id v w at (λ k. refl) refl;
+          place = keep_place stands callers first s r id v w at refl;
+          each = keep_each stands callers first s r id v w at (record {
+            seen = old.seen;
+            told = old.told;
+            own = old.own;
+            alive = (old.alive.0, old.alive.1, ent);
+            about = old.about;
+            served = old.served;
+            holder = old.holder;
+            fresh = λ h. absurd (omega arith);
+          });
+        },
+        ((λ lt. absurd (omega arith)), (λ _. refl)),
+      ))
+      (λ nl.
+      let lt : n < 2 ^ 62 = lt_of_not-le nl in
+      let w : View E F = record v { door = Numbered; next = n; asked = a } in
+      let no_over : total overs s.views ≡ 0 = dite (dec_le 1 (total overs s.views)) (λ h. absurd (let z = r.given.1 h in omega arith)) (λ h. omega arith) in
+      let is_base : n ≡ r.base = omega arith in
+      let ko = keep stands callers first s r id v w at overs o0 in
+      let mine = number_given stands callers first s r id v at (omega arith) in
+      let none = ((r.numbers n).1 (omega arith)).1 in (
+        w,
+        keeps,
+        tt,
+        record {
+          log = r.log;
+          serving = r.serving;
+          base = r.base + 1;
+          words = put4 (λ k. (k + 1) % 2 ^ 64) s.words _ _ _ _ _ (r.serving + total waits (set s.views id w)) r.serving (length r.log) (total lives (set s.views id w) + total enters (set s.views id w)) (r.base + 1 + total overs (set s.views id w)) r.words
+              (λ j. r.serving + sym (keep stands callers first s r id v w at waits refl) j) refl refl
+              (λ j. sym (keep stands callers first s r id v w at lives refl) j + sym (keep stands callers first s r id v w at enters (ap is_entering is)) j)
+              (add_small (r.base + total overs s.views) (omega arith) ∙ (let x : r.base + total overs s.views + 1 ≡ r.base + 1 + total overs (set s.views id w) = omega arith in x));
+          few = (let b = r.few in let k = keep stands callers first s r id v w at roomy (ap has_room is) in let kl = keep stands callers first s r id v w at lives refl in omega arith, r.few.1);
+          given = (omega arith, (λ (h : 0 < total overs (set s.views id w)). absurd (omega arith)));
+          numbers = λ k. (let t = total_set (parts_of k) s.views id v w at in
+              let z : where_is v.next k (has_next v.door) ≡ 0 = ap (where_is v.next k) n0 ∙ where_none v.next k in
+              dite (ℕ_discrete n k)
+              (λ e. let two = where_same n k 2 e in let no = ((r.numbers k).1 (omega arith)).0 in (omega arith, (λ h. absurd (omega arith))))
+              (λ ne. let zero = where_other n k 2 ne in let was = r.numbers k in
+              (omega arith, (λ h. let no = was.1 (omega arith) in (omega arith, no.1)))));
+          tickets = keep_tickets stands callers first s r id v w at (λ k. refl) refl;
+          place = keep_place stands callers first s r id v w at refl;
+          each = keep_each stands callers first s r id v w at (record {
+            seen = old.seen;
+            told = old.told;
+            own = old.own;
+            alive = (old.alive.0, old.alive.1, ent);
+            about = old.about;
+            served = old.served;
+            holder = old.holder;
+            fresh = λ h. none;
+          });
+        },
+        ((λ _. (refl, (λ same. absurd (let x : n ≡ v.number = same in omega arith)), own_none n v.seen r.log old.seen none)), (λ l. absurd (omega arith))),
+      ))
 
   spent_parts : (n : ℕ) → parts_of n (spent {E = E} {F = F}) ≡ 0
   spent_parts n = let z = where_none 0 n in omega arith
@@ -229,11 +266,13 @@ module _ {E F V : Type 0} (stands : F → List E → V → Type 0) (callers : �
         keeps,
         tt,
         record {
-          log = r.log; serving = r.serving; base = r.base;
+          log = r.log;
+          serving = r.serving;
+          base = r.base;
           words = put3 (λ n. (n + (2 ^ 64 - 1)) % 2 ^ 64) s.words _ _ _ _ _ (r.serving + total waits (set s.views id w)) r.serving (length r.log) (total lives (set s.views id w) + total enters (set s.views id w)) (r.base + total overs (set s.views id w)) r.words
               (λ j. r.serving + sym (keep stands callers first s r id v w at waits (ap has_ticket is)) j) refl refl
               (let x : total lives s.views + total enters s.views ≡ total lives (set s.views id w) + total enters (set s.views id w) + 1 = omega arith in
-               ap (λ (n : ℕ). (n + (2 ^ 64 - 1)) % 2 ^ 64) x ∙ sub_small (total lives (set s.views id w) + total enters (set s.views id w)) (omega arith))
+              ap (λ (n : ℕ). (n + (2 ^ 64 - 1)) % 2 ^ 64) x ∙ sub_small (total lives (set s.views id w) + total enters (set s.views id w)) (omega arith))
               (λ j. r.base + sym (keep stands callers first s r id v w at overs (ap is_over shut)) j);
           few = (let b = r.few in let k = keep stands callers first s r id v w at roomy (ap has_room shut) in omega arith, r.few.1);
           given = (r.given.0, (λ (h : 0 < total overs (set s.views id w)). r.given.1 (let b = keep stands callers first s r id v w at overs (ap is_over shut) in omega arith)));
@@ -241,9 +280,14 @@ module _ {E F V : Type 0} (stands : F → List E → V → Type 0) (callers : �
           tickets = keep_tickets stands callers first s r id v w at (λ k. ap (where_is v.ticket k) (ap has_ticket is) ∙ (where_none v.ticket k ∙ sym (where_none 0 k))) (ap has_ticket is);
           place = keep_place stands callers first s r id v w at (ap has_value is);
           each = keep_each stands callers first s r id v w at (record {
-            seen = (r.log, refl); told = (r.log, refl); own = λ h. absurd (omega arith);
+            seen = (r.log, refl);
+            told = (r.log, refl);
+            own = λ h. absurd (omega arith);
             alive = (omega arith, omega arith, omega arith);
-            about = λ h. absurd (omega arith); served = λ h. absurd (omega arith); holder = λ h. absurd (omega arith); fresh = λ h. absurd (omega arith);
+            about = λ h. absurd (omega arith);
+            served = λ h. absurd (omega arith);
+            holder = λ h. absurd (omega arith);
+            fresh = λ h. absurd (omega arith);
           });
         },
         tt,
@@ -261,9 +305,21 @@ module _ {E F V : Type 0} (stands : F → List E → V → Type 0) (callers : �
         keeps,
         tt,
         quiet stands callers first s r id v w at 0 refl refl refl refl refl refl (λ n. refl) (λ k. refl) (record {
-          seen = both.2; told = (r.log, refl); own = λ h. (own.0, own'); alive = old.alive; about = old.about; served = old.served;
-          holder = λ h. absurd (let z : has_value v.stage ≡ 0 = ap has_value is in omega arith); fresh = old.fresh;
+          seen = both.2;
+          told = (r.log, refl);
+          own = λ h. (own.0, own');
+          alive = old.alive;
+          about = old.about;
+          served = old.served;
+          holder = λ h. absurd (let z : has_value v.stage ≡ 0 = ap has_value is in omega arith);
+          fresh = old.fresh;
         }),
-        (refl, both.0, both.1, own', (λ h same. let one = total_one (parts_of v.number) s.views id v at in
-            let a = where_same v.number v.number v.parts refl in let b = where_same v.guest v.number v.guest_parts same in let most = (r.numbers v.number).0 in omega arith)),
+        (
+          refl,
+          both.0,
+          both.1,
+          own',
+          (λ h same. let one = total_one (parts_of v.number) s.views id v at in
+              let a = where_same v.number v.number v.parts refl in let b = where_same v.guest v.number v.guest_parts same in let most = (r.numbers v.number).0 in omega arith),
+        ),
       )

@@ -54,24 +54,24 @@ in_row serving waiting k times row h =
 row_more : (serving waiting k times more times' : ℕ) → IsRow serving waiting k times → more ≡ waiting + 1 → times' ≡ times + where_is (serving + waiting) k 1 → IsRow serving more k times'
 row_more serving waiting k times more times' row em et = dite (ℕ_discrete (serving + waiting) k)
     (λ e. let one = where_same (serving + waiting) k 1 e in let none : times ≡ 0 = row.after (omega arith) in
-        record { before = λ h. absurd (omega arith); after = λ h. absurd (omega arith); once = λ g h. omega arith })
+    record { before = λ h. absurd (omega arith); after = λ h. absurd (omega arith); once = λ g h. omega arith })
     (λ ne. let zero = where_other (serving + waiting) k 1 ne in let same : times' ≡ times = omega arith in
-        record {
-          before = λ h. same ∙ row.before h;
-          after = λ h. same ∙ row.after (omega arith);
-          once = λ g h. same ∙ row.once g (dite (dec_le (serving + waiting) k) (λ l. absurd (ne (omega arith))) (λ n. lt_of_not-le n));
-        })
+    record {
+      before = λ h. same ∙ row.before h;
+      after = λ h. same ∙ row.after (omega arith);
+      once = λ g h. same ∙ row.once g (dite (dec_le (serving + waiting) k) (λ l. absurd (ne (omega arith))) (λ n. lt_of_not-le n));
+    })
 
 pub row_less : (serving waiting k times less times' : ℕ) → IsRow serving waiting k times → less + 1 ≡ waiting → times' + where_is serving k 1 ≡ times → IsRow (serving + 1) less k times'
 row_less serving waiting k times less times' row el et = dite (ℕ_discrete serving k)
     (λ e. let one = where_same serving k 1 e in let was : times ≡ 1 = row.once (omega arith) (omega arith) in
-        record { before = λ h. omega arith; after = λ h. omega arith; once = λ g h. absurd (omega arith) })
+    record { before = λ h. omega arith; after = λ h. omega arith; once = λ g h. absurd (omega arith) })
     (λ ne. let zero = where_other serving k 1 ne in let same : times' ≡ times = omega arith in
-        record {
-          before = λ h. same ∙ row.before (dite (dec_le serving k) (λ l. absurd (ne (omega arith))) (λ n. lt_of_not-le n));
-          after = λ h. same ∙ row.after (omega arith);
-          once = λ g h. same ∙ row.once (omega arith) (omega arith);
-        })
+    record {
+      before = λ h. same ∙ row.before (dite (dec_le serving k) (λ l. absurd (ne (omega arith))) (λ n. lt_of_not-le n));
+      after = λ h. same ∙ row.after (omega arith);
+      once = λ g h. same ∙ row.once (omega arith) (omega arith);
+    })
 
 module _ {E F V : Type 0} (stands : F → List E → V → Type 0) (callers : ℕ) (first : F) where
   abbrev St : Type 0
@@ -166,20 +166,25 @@ module _ {E F V : Type 0} (stands : F → List E → V → Type 0) (callers : �
       let few = few_wait s r in
       let range = ticket_in s r id v at (ap has_ticket is) in
       dite (ℕ_discrete (get_or s.words 1 0) (v.ticket % 2 ^ 64))
-        (λ e. let w : View E F = record v { stage = Called } in
-            let mine : v.ticket ≡ r.serving = sym (near r.serving v.ticket range.0 (omega arith) (sym found ∙ e)) in (
-              w,
-              keeps,
-              tt,
-              quiet s r id v w at 1 (ap has_ticket is) (ap has_value is) refl refl refl refl (λ n. refl) (λ k. ap (where_is v.ticket k) (ap has_ticket is))
-                (record {
-                  seen = old.seen; told = old.told; own = old.own;
-                  alive = (old.alive.0, subst (λ (t : Stage). has_ticket t ≤ v.live) is old.alive.1, old.alive.2);
-                  about = old.about; served = λ h. mine; holder = λ h. absurd (omega arith); fresh = old.fresh;
-                }),
-              ((λ same. refl), (λ ne. absurd (ne e))),
-            ))
-        (λ ne. (v, keeps, tt, quiet s r id v v at 1 refl refl refl refl refl refl (λ n. refl) (λ k. refl) old, ((λ e. absurd (ne e)), (λ other. refl))))
+      (λ e. let w : View E F = record v { stage = Called } in
+      let mine : v.ticket ≡ r.serving = sym (near r.serving v.ticket range.0 (omega arith) (sym found ∙ e)) in (
+        w,
+        keeps,
+        tt,
+        quiet s r id v w at 1 (ap has_ticket is) (ap has_value is) refl refl refl refl (λ n. refl) (λ k. ap (where_is v.ticket k) (ap has_ticket is))
+            (record {
+              seen = old.seen;
+              told = old.told;
+              own = old.own;
+              alive = (old.alive.0, subst (λ (t : Stage). has_ticket t ≤ v.live) is old.alive.1, old.alive.2);
+              about = old.about;
+              served = λ h. mine;
+              holder = λ h. absurd (omega arith);
+              fresh = old.fresh;
+            }),
+        ((λ same. refl), (λ ne. absurd (ne e))),
+      ))
+      (λ ne. (v, keeps, tt, quiet s r id v v at 1 refl refl refl refl refl refl (λ n. refl) (λ k. refl) old, ((λ e. absurd (ne e)), (λ other. refl))))
 
   pub tickets : (slots id : ℕ) (st : Step (Option V)) (v : View E F) (c : List (ℕ × Option V)) → v.stage ≡ Idle → v.live ≡ 1 → Allows Rule slots id (v, c) 0 (λ n. (n + 1) % 2 ^ 64) (ticketed st (v, c))
   tickets slots id st v c is live s r deep at low =
@@ -194,7 +199,9 @@ module _ {E F V : Type 0} (stands : F → List E → V → Type 0) (callers : �
         keeps,
         tt,
         record {
-          log = r.log; serving = r.serving; base = r.base;
+          log = r.log;
+          serving = r.serving;
+          base = r.base;
           words = put0 (λ n. (n + 1) % 2 ^ 64) s.words _ _ _ _ _ (r.serving + total waits (set s.views id w)) r.serving (length r.log) (total lives (set s.views id w) + total enters (set s.views id w)) (r.base + total overs (set s.views id w)) r.words
               (add_one t ∙ ap (λ (n : ℕ). n % 2 ^ 64) (let x : t + 1 ≡ r.serving + total waits (set s.views id w) = omega arith in x)) refl refl
               (λ j. sym (keep s r id v w at lives refl) j + sym (keep s r id v w at enters refl) j) (λ j. r.base + sym (keep s r id v w at overs refl) j);
@@ -205,9 +212,14 @@ module _ {E F V : Type 0} (stands : F → List E → V → Type 0) (callers : �
               (let z : ticket_is k v ≡ 0 = ap (where_is v.ticket k) none ∙ where_none v.ticket k in let x = total_set (ticket_is k) s.views id v w at in omega arith);
           place = keep_place s r id v w at (ap has_value is);
           each = keep_each s r id v w at (record {
-            seen = old.seen; told = old.told; own = old.own;
+            seen = old.seen;
+            told = old.told;
+            own = old.own;
             alive = (old.alive.0, (omega arith), old.alive.2);
-            about = old.about; served = λ h. absurd (omega arith); holder = λ h. absurd (omega arith); fresh = old.fresh;
+            about = old.about;
+            served = λ h. absurd (omega arith);
+            holder = λ h. absurd (omega arith);
+            fresh = old.fresh;
           });
         },
         (refl, found),
@@ -219,19 +231,21 @@ module _ {E F V : Type 0} (stands : F → List E → V → Type 0) (callers : �
       let w : View E F = record v { stage = Holding; seen = r.log } in
       let served : 0 < is_served v.stage = subst (λ (n : ℕ). 0 < n) (sym (ap is_served is)) (omega arith) in
       let none_out : total holds s.views ≡ 0 = total_zero holds s.views (λ i u there. dite (ℕ_discrete i id)
-          (λ e. let same : some u ≡ some v = sym there ∙ (ap (get_elem? s.views) e ∙ at) in ap holds (some-injective u v same) ∙ ap has_value is)
-          (λ ne. let z = alone s r id v at served i u ne there in let x = value_served u.stage in omega arith)) in
+      (λ e. let same : some u ≡ some v = sym there ∙ (ap (get_elem? s.views) e ∙ at) in ap holds (some-injective u v same) ∙ ap has_value is)
+      (λ ne. let z = alone s r id v at served i u ne there in let x = value_served u.stage in omega arith)) in
       let th = total_set holds s.views id v w at in
       let zero : has_value v.stage ≡ 0 = ap has_value is in
       let home : (x : V) × (s.homes ≡ some (Some x) ∷ []) × stands first (entries_of r.log) x =
-          ⊎_elim (λ (t : (total holds s.views ≡ 0) × ((x : V) × (s.homes ≡ some (Some x) ∷ []) × stands first (entries_of r.log) x)). t.1) (λ (t : (total holds s.views ≡ 1) × (s.homes ≡ none ∷ [])). absurd (omega arith)) r.place in
+      ⊎_elim (λ (t : (total holds s.views ≡ 0) × ((x : V) × (s.homes ≡ some (Some x) ∷ []) × stands first (entries_of r.log) x)). t.1) (λ (t : (total holds s.views ≡ 1) × (s.homes ≡ none ∷ [])). absurd (omega arith)) r.place in
       let own = old.own (omega arith) in
       let about = old.about (omega arith) in (
         w,
         takes 0 (Some home.0),
         ap (λ (l : List (maybe.Option (Option V))). get_elem? l 0) home.1,
         record {
-          log = r.log; serving = r.serving; base = r.base;
+          log = r.log;
+          serving = r.serving;
+          base = r.base;
           words = set-get_or s.words 1 0 ∙ (r.words ∙ (λ j. words_of (r.serving + sym (keep s r id v w at waits (ap has_ticket is)) j) r.serving (length r.log) (sym (keep s r id v w at lives refl) j + sym (keep s r id v w at enters refl) j) (r.base + sym (keep s r id v w at overs refl) j)));
           few = (let a = keep s r id v w at lives refl in let b = keep s r id v w at roomy refl in let f = r.few in omega arith, r.few.1);
           given = (r.given.0, (λ (h : 0 < total overs (set s.views id w)). r.given.1 (let a = keep s r id v w at overs refl in omega arith)));
@@ -239,9 +253,14 @@ module _ {E F V : Type 0} (stands : F → List E → V → Type 0) (callers : �
           tickets = keep_tickets s r id v w at (λ k. ap (where_is v.ticket k) (ap has_ticket is)) (ap has_ticket is);
           place = inr (omega arith, ap (λ (l : List (maybe.Option (Option V))). set l 0 none) home.1);
           each = keep_each s r id v w at (record {
-            seen = prefix_self r.log; told = old.told; own = λ h. (own.0, own.0);
+            seen = prefix_self r.log;
+            told = old.told;
+            own = λ h. (own.0, own.0);
             alive = (old.alive.0, (omega arith), old.alive.2);
-            about = old.about; served = λ h. old.served served; holder = λ h. refl; fresh = old.fresh;
+            about = old.about;
+            served = λ h. old.served served;
+            holder = λ h. refl;
+            fresh = old.fresh;
           });
         },
         (home.0, refl, old.seen, own.0, subst (λ (o : Option F). IfSome o (λ f. stands f (entries_of r.log) home.0)) (sym about.0) home.2),

@@ -5,4 +5,5 @@ pub mod Keeps
 pub mod Turns
 pub mod Doors
 pub mod Meets
-pub mod Steps
+pub mod Fitted
+pub mod Sums

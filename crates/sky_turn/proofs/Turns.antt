@@ -48,7 +48,9 @@ module _ {E F V : Type 0} (stands : F → List E → V → Type 0) (callers : �
         keeps,
         tt,
         record {
-          log = log'; serving = r.serving; base = r.base;
+          log = log';
+          serving = r.serving;
+          base = r.base;
           words = put2 (λ n. (n + 1) % 2 ^ 64) s.words _ _ _ _ _ (r.serving + total waits (set s.views id w)) r.serving (length log') (total lives (set s.views id w) + total enters (set s.views id w)) (r.base + total overs (set s.views id w)) r.words
               (λ j. r.serving + sym (keep stands callers first s r id v w at waits (ap has_ticket is)) j) refl (add_one (length r.log) ∙ ap (λ (n : ℕ). n % 2 ^ 64) longer_by_one)
               (λ j. sym (keep stands callers first s r id v w at lives refl) j + sym (keep stands callers first s r id v w at enters refl) j) (λ j. r.base + sym (keep stands callers first s r id v w at overs refl) j);
@@ -59,20 +61,24 @@ module _ {E F V : Type 0} (stands : F → List E → V → Type 0) (callers : �
           tickets = keep_tickets stands callers first s r id v w at (λ k. ap (where_is v.ticket k) (ap has_ticket is)) (ap has_ticket is);
           place = let o = out_of s r id v at out in inr (keep stands callers first s r id v w at holds out ∙ o.0, o.1);
           each = each_to stands callers first s r id v w at r.serving log' (record {
-              seen = subst (λ (l : List (Entered E)). IsPrefix (l ++ d ∷ []) log') (sym all) (prefix_self log');
-              told = prefix_trans v.told r.log log' old.told (d ∷ [], refl);
-              own = λ h. (ap (λ (l : List E). l ++ e ∷ []) own.0 ∙ sym (own_last v.number r.log e), ap (λ (l : List E). l ++ e ∷ []) own.1 ∙ sym (own_last v.number v.seen e));
-              alive = (old.alive.0, subst (λ (t : Stage). has_ticket t ≤ v.live) is old.alive.1, old.alive.2);
-              about = old.about; served = λ h. old.served served; holder = λ h. ap (λ (l : List (Entered E)). l ++ d ∷ []) all;
-              fresh = λ h. absurd (let z : has_next v.door ≡ 0 = ap has_next shut in omega arith);
-            }) (λ i u other there. let fit = r.each i u there in let no_part = number_alone stands callers first s r id v at whole i u other there in record {
-              seen = prefix_trans u.seen r.log log' fit.seen (d ∷ [], refl);
-              told = prefix_trans u.told r.log log' fit.told (d ∷ [], refl);
-              own = λ h. (let o = fit.own h in (o.0 ∙ sym (own_else u.number v.number r.log e (λ same. let p : where_is u.number v.number u.parts ≡ u.parts = where_same u.number v.number u.parts (sym same) in absurd (omega arith))), o.1));
-              alive = fit.alive; about = fit.about; served = fit.served;
-              holder = λ h. absurd (let z = alone stands callers first s r id v at served i u other there in let x = value_served u.stage in omega arith);
-              fresh = λ h. own_else u.next v.number r.log e (λ same. let p : where_is u.next v.number (has_next u.door) ≡ has_next u.door = where_same u.next v.number (has_next u.door) (sym same) in absurd (omega arith)) ∙ fit.fresh h;
-            });
+            seen = subst (λ (l : List (Entered E)). IsPrefix (l ++ d ∷ []) log') (sym all) (prefix_self log');
+            told = prefix_trans v.told r.log log' old.told (d ∷ [], refl);
+            own = λ h. (ap (λ (l : List E). l ++ e ∷ []) own.0 ∙ sym (own_last v.number r.log e), ap (λ (l : List E). l ++ e ∷ []) own.1 ∙ sym (own_last v.number v.seen e));
+            alive = (old.alive.0, subst (λ (t : Stage). has_ticket t ≤ v.live) is old.alive.1, old.alive.2);
+            about = old.about;
+            served = λ h. old.served served;
+            holder = λ h. ap (λ (l : List (Entered E)). l ++ d ∷ []) all;
+            fresh = λ h. absurd (let z : has_next v.door ≡ 0 = ap has_next shut in omega arith);
+          }) (λ i u other there. let fit = r.each i u there in let no_part = number_alone stands callers first s r id v at whole i u other there in record {
+            seen = prefix_trans u.seen r.log log' fit.seen (d ∷ [], refl);
+            told = prefix_trans u.told r.log log' fit.told (d ∷ [], refl);
+            own = λ h. (let o = fit.own h in (o.0 ∙ sym (own_else u.number v.number r.log e (λ same. let p : where_is u.number v.number u.parts ≡ u.parts = where_same u.number v.number u.parts (sym same) in absurd (omega arith))), o.1));
+            alive = fit.alive;
+            about = fit.about;
+            served = fit.served;
+            holder = λ h. absurd (let z = alone stands callers first s r id v at served i u other there in let x = value_served u.stage in omega arith);
+            fresh = λ h. own_else u.next v.number r.log e (λ same. let p : where_is u.next v.number (has_next u.door) ≡ has_next u.door = where_same u.next v.number (has_next u.door) (sym same) in absurd (omega arith)) ∙ fit.fresh h;
+          });
         },
         (refl, found ∙ ap (λ (l : List (Entered E)). length l % 2 ^ 64) (sym all)),
       )
@@ -94,7 +100,9 @@ module _ {E F V : Type 0} (stands : F → List E → V → Type 0) (callers : �
         gives,
         tt,
         record {
-          log = r.log; serving = r.serving; base = r.base;
+          log = r.log;
+          serving = r.serving;
+          base = r.base;
           words = set-get_or s.words 0 0 ∙ (r.words ∙ (λ j. words_of (r.serving + sym (keep stands callers first s r id v w at waits waiting) j) r.serving (length r.log) (sym (keep stands callers first s r id v w at lives refl) j + sym (keep stands callers first s r id v w at enters refl) j) (r.base + sym (keep stands callers first s r id v w at overs refl) j)));
           few = (let a = keep stands callers first s r id v w at lives refl in let b = keep stands callers first s r id v w at roomy refl in let f = r.few in omega arith, r.few.1);
           given = (r.given.0, (λ (h : 0 < total overs (set s.views id w)). r.given.1 (let a = keep stands callers first s r id v w at overs refl in omega arith)));
@@ -102,9 +110,14 @@ module _ {E F V : Type 0} (stands : F → List E → V → Type 0) (callers : �
           tickets = keep_tickets stands callers first s r id v w at (λ k. ap (where_is v.ticket k) waiting) waiting;
           place = inl (let a = o.0 in omega arith, (x, ap (λ (l : List (maybe.Option (Option V))). set l 0 (some (Some x))) o.1, does'));
           each = keep_each stands callers first s r id v w at (record {
-            seen = old.seen; told = old.told; own = old.own;
+            seen = old.seen;
+            told = old.told;
+            own = old.own;
             alive = (old.alive.0, (omega arith), old.alive.2);
-            about = old.about; served = λ h. old.served (omega arith); holder = λ h. absurd (omega arith); fresh = old.fresh;
+            about = old.about;
+            served = λ h. old.served (omega arith);
+            holder = λ h. absurd (omega arith);
+            fresh = old.fresh;
           });
         },
         refl,
@@ -123,7 +136,9 @@ module _ {E F V : Type 0} (stands : F → List E → V → Type 0) (callers : �
         keeps,
         tt,
         record {
-          log = r.log; serving = r.serving + 1; base = r.base;
+          log = r.log;
+          serving = r.serving + 1;
+          base = r.base;
           words = put1 (λ n. (n + 1) % 2 ^ 64) s.words _ _ _ _ _ (r.serving + 1 + total waits (set s.views id w)) (r.serving + 1) (length r.log) (total lives (set s.views id w) + total enters (set s.views id w)) (r.base + total overs (set s.views id w)) r.words
               (omega arith) (add_one r.serving) refl
               (λ j. sym (keep stands callers first s r id v w at lives refl) j + sym (keep stands callers first s r id v w at enters refl) j) (λ j. r.base + sym (keep stands callers first s r id v w at overs refl) j);
@@ -132,18 +147,28 @@ module _ {E F V : Type 0} (stands : F → List E → V → Type 0) (callers : �
           numbers = keep_numbers stands callers first s r id v w at (λ n. refl);
           tickets = λ k. row_less r.serving (total waits s.views) k (total (ticket_is k) s.views) (total waits (set s.views id w)) (total (ticket_is k) (set s.views id w)) (r.tickets k) less
               (let t = total_set (ticket_is k) s.views id v w at in
-               let a : ticket_is k v ≡ where_is r.serving k 1 = (λ j. where_is (mine j) k (one j)) in
-               let b : ticket_is k w ≡ 0 = where_none v.ticket k in omega arith);
+              let a : ticket_is k v ≡ where_is r.serving k 1 = (λ j. where_is (mine j) k (one j)) in
+              let b : ticket_is k w ≡ 0 = where_none v.ticket k in omega arith);
           place = keep_place stands callers first s r id v w at (ap has_value is);
           each = each_to stands callers first s r id v w at (r.serving + 1) r.log (record {
-              seen = old.seen; told = old.told; own = old.own;
-              alive = (old.alive.0, omega arith, old.alive.2);
-              about = old.about; served = λ h. absurd (omega arith); holder = λ h. absurd (omega arith); fresh = old.fresh;
-            }) (λ i u other there. let fit = r.each i u there in record {
-              seen = fit.seen; told = fit.told; own = fit.own; alive = fit.alive; about = fit.about;
-              served = λ h. absurd (let z = alone stands callers first s r id v at served i u other there in omega arith);
-              holder = fit.holder; fresh = fit.fresh;
-            });
+            seen = old.seen;
+            told = old.told;
+            own = old.own;
+            alive = (old.alive.0, omega arith, old.alive.2);
+            about = old.about;
+            served = λ h. absurd (omega arith);
+            holder = λ h. absurd (omega arith);
+            fresh = old.fresh;
+          }) (λ i u other there. let fit = r.each i u there in record {
+            seen = fit.seen;
+            told = fit.told;
+            own = fit.own;
+            alive = fit.alive;
+            about = fit.about;
+            served = λ h. absurd (let z = alone stands callers first s r id v at served i u other there in omega arith);
+            holder = fit.holder;
+            fresh = fit.fresh;
+          });
         },
         refl,
       )

@@ -140,8 +140,21 @@ module _ {E F : Type 0} where
   -- a pass that has drawn nothing
   abbrev pub newcomer : ℕ → ℕ → Option F → List (Entered E) → View E F
   newcomer number callers first seen = record {
-    number = number; parts = 2; live = 1; first = first; callers = callers; seen = seen; own = [];
-    stage = Idle; ticket = 0; door = Shut; next = 0; asked = nothing_asked; told = []; guest = 0; guest_parts = 0;
+    number = number;
+    parts = 2;
+    live = 1;
+    first = first;
+    callers = callers;
+    seen = seen;
+    own = [];
+    stage = Idle;
+    ticket = 0;
+    door = Shut;
+    next = 0;
+    asked = nothing_asked;
+    told = [];
+    guest = 0;
+    guest_parts = 0;
   }
 
   abbrev pub opener : ℕ → F → View E F
@@ -150,8 +163,21 @@ module _ {E F : Type 0} where
   -- no pass: it knows nothing
   abbrev pub spent : View E F
   spent = record {
-    number = 0; parts = 0; live = 0; first = None; callers = 0; seen = []; own = [];
-    stage = Idle; ticket = 0; door = Shut; next = 0; asked = nothing_asked; told = []; guest = 0; guest_parts = 0;
+    number = 0;
+    parts = 0;
+    live = 0;
+    first = None;
+    callers = 0;
+    seen = [];
+    own = [];
+    stage = Idle;
+    ticket = 0;
+    door = Shut;
+    next = 0;
+    asked = nothing_asked;
+    told = [];
+    guest = 0;
+    guest_parts = 0;
   }
 
   -- what a pass tells of itself at a meeting: a part of its number, and what it has seen

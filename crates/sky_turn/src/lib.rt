@@ -12,7 +12,7 @@ mod view;
 
 pub use pass::{Full, Held, Pass, Turned};
 pub use stands::Stands;
-pub use sum::{Sum, add};
+pub use sum::{Sum, add, add_both};
 pub use turn::Turn;
 pub use view::{Asked, Door, Entered, Stage, View};
 

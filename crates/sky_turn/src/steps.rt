@@ -9,8 +9,8 @@ ghost use Rattle.sky_turn.specs.Passes.{IsAt, IsSame, IsWhole, IsTaken};
 
 use crate::law::{Place, Top};
 use crate::plays::{
-    Draw, Hear, Knock, Learn, Leave, Lend, LetIn, Look, Number, PassOn, Regain, Return, Says, SlotIn,
-    SlotOut, Ticket, TurnAway, Unnumber,
+    Draw, Hear, Knock, Learn, Leave, Lend, LetIn, Look, Number, PassOn, Regain, Return, Says,
+    SlotIn, SlotOut, Ticket, TurnAway, Unnumber,
 };
 use crate::stands::Stands;
 
@@ -191,4 +191,23 @@ pub(crate) fn leave<V: Stands>(top: &Top<V>, seat: &mut Place<V>)
     requires ready { (seat.old.me.0.stage ≡ Idle) × (seat.old.me.0.door ≡ Shut) × (seat.old.me.0.live ≡ 1) }
 {
     top.fetch_sub::<Leave>(seat, ALIVE, 1);
+}
+
+pub(crate) fn empty_slot<V: Stands>(top: &Top<V>, seat: &mut Place<V>) -> V
+    requires table { IsAt top.now.table_id seat.old }
+    requires full { (x : V) × (seat.old.me.1 ≡ (0, Some x) ∷ []) }
+    ensures seat { IsSame seat.old seat.new }
+    ensures value { seat.old.me.1 ≡ (0, Some result) ∷ [] }
+    ensures view { seat.new.me ≡ (seat.old.me.0, (0, None) ∷ []) }
+{
+    top.exchange(seat, 0, None).unwrap()
+}
+
+pub(crate) fn fill_slot<V: Stands>(top: &Top<V>, seat: &mut Place<V>, value: V)
+    requires table { IsAt top.now.table_id seat.old }
+    requires empty { seat.old.me.1 ≡ (0, None) ∷ [] }
+    ensures seat { IsSame seat.old seat.new }
+    ensures view { seat.new.me ≡ (seat.old.me.0, (0, Some value) ∷ []) }
+{
+    let _nothing = top.exchange(seat, 0, Some(value));
 }

@@ -1,5 +1,5 @@
 //! Turns of one thread and of many, over a number to which each entry adds.
-use crate::{Pass, Sum, Turn, add};
+use crate::{Pass, Sum, Turn, add, add_both};
 use std::process::Abort;
 use std::sync::Wait;
 use std::test::*;
@@ -31,15 +31,14 @@ fn value_of<R: Wait>(rt: &R, turn: &Turn<Sum>, pass: Pass<Sum>) -> u64 {
 
 #[test]
 fn two_callers_on_one_thread(rt: HostRuntime) -> Result<(), Fail> {
-    let (turn, mut pass) = Turn::make(rt.alloc(), Sum { value: 0 }, 2).ok().ok_or("memory")?;
+    let (turn, mut pass) = Turn::make(rt.alloc(), Sum { value: 0 }, 2)
+        .ok()
+        .ok_or("memory")?;
     let other = turn.enter(&mut pass).ok().ok_or("room")?;
     let full = turn.enter(&mut pass);
     assert!(rt; matches!(&full, Err(f) if f.alive == 2 && f.made.is_none()));
     drop(full);
-    let (pass, first) = add(&rt, &turn, pass, 5);
-    let (other, second) = add(&rt, &turn, other, 7);
-    assert!(rt; first == 0 && second == 1);
-    let (mut pass, other) = turn.meet(pass, other);
+    let (mut pass, other) = add_both(&rt, &turn, pass, other, 5, 7);
     turn.leave(other);
     let third = turn.enter(&mut pass).ok().ok_or("room again")?;
     assert_eq!(rt; value_of(&rt, &turn, third), 12);
@@ -48,12 +47,18 @@ fn two_callers_on_one_thread(rt: HostRuntime) -> Result<(), Fail> {
 
 #[test]
 fn two_callers_on_two_threads(rt: HostRuntime) -> Result<(), Fail> {
-    let (turn, mut pass) = Turn::make(rt.alloc(), Sum { value: 0 }, 2).ok().ok_or("memory")?;
+    let (turn, mut pass) = Turn::make(rt.alloc(), Sum { value: 0 }, 2)
+        .ok()
+        .ok_or("memory")?;
     let other = turn.enter(&mut pass).ok().ok_or("room")?;
     let full = turn.enter(&mut pass);
     assert!(rt; matches!(&full, Err(f) if f.alive == 2 && f.made.is_none()));
     drop(full);
-    let ((pass, first), (_other, second)) = join(&rt, || add(&rt, &turn, pass, 5), || add(&rt, &turn, other, 7));
+    let ((pass, first), (_other, second)) = join(
+        &rt,
+        || add(&rt, &turn, pass, 5),
+        || add(&rt, &turn, other, 7),
+    );
     assert!(rt; first.wrapping_add(second) == 1 && first < 2);
     assert_eq!(rt; value_of(&rt, &turn, pass), 12);
     Ok(())
@@ -61,7 +66,9 @@ fn two_callers_on_two_threads(rt: HostRuntime) -> Result<(), Fail> {
 
 #[test]
 fn sixteen_threads_of_a_thousand_turns(rt: HostRuntime) -> Result<(), Fail> {
-    let (turn, mut pass) = Turn::make(rt.alloc(), Sum { value: 3 }, THREADS + 1).ok().ok_or("memory")?;
+    let (turn, mut pass) = Turn::make(rt.alloc(), Sum { value: 3 }, THREADS + 1)
+        .ok()
+        .ok_or("memory")?;
     let mut passes = Vec::new(rt.alloc());
     for _ in 0..THREADS {
         passes.push(turn.enter(&mut pass).ok().ok_or("room")?)?;

@@ -8,8 +8,9 @@ use crate::law::{Board, Place, Start, Top};
 use crate::pass::{Full, Held, Pass, Turned};
 use crate::stands::Stands;
 use crate::steps::{
-    SERVING, TICKET, draw_as, find_number, give_back, hear, knock, learn, leave, lend, let_in, look,
-    pass_on, regain, slot_in, slot_out, take_ticket, turn_away, unnumber,
+    SERVING, TICKET, draw_as, empty_slot, fill_slot, find_number, give_back, hear, knock, learn,
+    leave, lend, let_in, look, pass_on, regain, slot_in, slot_out, take_ticket, turn_away,
+    unnumber,
 };
 use atomic_table::Table;
 use sky_base::NoMemory;
@@ -123,7 +124,7 @@ impl<V: Stands> Turn<V> {
     pub fn give(&self, turned: Turned<'_, V>) -> Pass<V>
         requires turn { turned.held.pass.turn ≡ self.now }
         requires stands { IfSome turned.held.pass.first (λ first. V.stands first (entries_of turned.held.pass.seen) turned.value) }
-        ensures pass { result ≡ turned.held.pass }
+        ensures pass { result ≡ turned.entry.held.pass }
     {
         let Turned {
             value,
@@ -250,7 +251,7 @@ fn take_out<V: Stands, R: Wait>(rt: &R, top: &Top<V>, seat: &mut Place<V>) -> V
     let ticket = take_ticket(top, seat);
     wait_for(rt, top, seat, ticket);
     slot_out(top, seat);
-    top.exchange(seat, 0, None).unwrap()
+    empty_slot(top, seat)
 }
 
 // Puts the value into the slot, and serves the next ticket.
@@ -261,7 +262,7 @@ fn put_back<V: Stands>(top: &Top<V>, seat: &mut Place<V>, value: V)
     ensures seat { IsSame seat.old seat.new × IsIdle seat.new }
     ensures same { known seat.new ≡ known seat.old }
 {
-    let _nothing = top.exchange(seat, 0, Some(value));
+    fill_slot(top, seat, value);
     slot_in(top, seat);
     let served = pass_on(top, seat);
     if top.peek(TICKET) != served.wrapping_add(1) {

@@ -1,7 +1,6 @@
 //! What a seat at the table knows. No value of these types is made: they are the plain data of the proofs.
 use std::collections::LinkedList;
 
-
 /// An entry of the history, with the number of the pass that drew it.
 pub struct Entered<E> {
     pub by: u64,

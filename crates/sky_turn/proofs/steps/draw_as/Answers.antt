@@ -1,5 +1,5 @@
 use Rattle.std.proofs.Common.{rules}
-use Rattle.sky_turn.proofs.Steps.{draws_at}
+use Rattle.sky_turn.proofs.Fitted.{draws_at}
 use Rattle.sky_turn.proofs.steps.draw_as.Goals as goal
 
 pub fetch_add-requires : goal.fetch_add-requires

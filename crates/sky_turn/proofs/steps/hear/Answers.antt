@@ -1,5 +1,5 @@
 use Rattle.std.proofs.Common.{rules}
-use Rattle.sky_turn.proofs.Steps.{hears_at}
+use Rattle.sky_turn.proofs.Fitted.{hears_at}
 use Rattle.sky_turn.proofs.steps.hear.Goals as goal
 
 pub join_seat-requires : goal.join_seat-requires

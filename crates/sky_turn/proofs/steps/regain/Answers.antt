@@ -1,5 +1,5 @@
 use Rattle.std.proofs.Common.{rules}
-use Rattle.sky_turn.proofs.Steps.{regains_at}
+use Rattle.sky_turn.proofs.Fitted.{regains_at}
 use Rattle.sky_turn.proofs.steps.regain.Goals as goal
 
 pub join_seat-requires : goal.join_seat-requires

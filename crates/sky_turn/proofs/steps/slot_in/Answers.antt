@@ -1,5 +1,5 @@
 use Rattle.std.proofs.Common.{rules}
-use Rattle.sky_turn.proofs.Steps.{returns_at}
+use Rattle.sky_turn.proofs.Fitted.{returns_at}
 use Rattle.sky_turn.proofs.steps.slot_in.Goals as goal
 
 pub load-requires : goal.load-requires

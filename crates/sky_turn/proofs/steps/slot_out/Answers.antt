@@ -1,5 +1,5 @@
 use Rattle.std.proofs.Common.{rules}
-use Rattle.sky_turn.proofs.Steps.{takes_at}
+use Rattle.sky_turn.proofs.Fitted.{takes_at}
 use Rattle.sky_turn.proofs.steps.slot_out.Goals as goal
 
 pub load-requires : goal.load-requires

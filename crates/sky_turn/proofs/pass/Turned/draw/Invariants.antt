@@ -1,5 +1,5 @@
 use Rattle.std.proofs.Common.{Some}
-use Rattle.sky_turn.proofs.turn.Turned.draw.Given as goal
+use Rattle.sky_turn.proofs.pass.Turned.draw.Given as goal
 
 -- the entry that is drawn
 abbrev pub ghosts-draw_as : goal.ghosts-draw_as
