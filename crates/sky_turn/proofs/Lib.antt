@@ -7,3 +7,4 @@ pub mod Doors
 pub mod Meets
 pub mod Fitted
 pub mod Sums
+pub mod Met
