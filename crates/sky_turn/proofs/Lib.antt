@@ -7,4 +7,4 @@ pub mod Doors
 pub mod Meets
 pub mod Fitted
 pub mod Sums
-pub mod Met
+pub mod Afterwards
