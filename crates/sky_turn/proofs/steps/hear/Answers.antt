@@ -1,6 +1,0 @@
-use Rattle.std.proofs.Common.{rules}
-use Rattle.sky_turn.proofs.Fitted.{hears_at}
-use Rattle.sky_turn.proofs.steps.hear.Goals as goal
-
-pub join_seat-requires : goal.join_seat-requires
-join_seat-requires g c = (search rules, search rules, search rules, search rules, hears_at g.V.Stands.stands _ _ _ _ c.args.seat.now.me.0 c.args.word.me.0 (search rules) (search rules))

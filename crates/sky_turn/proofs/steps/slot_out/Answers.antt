@@ -1,6 +1,0 @@
-use Rattle.std.proofs.Common.{rules}
-use Rattle.sky_turn.proofs.Fitted.{takes_at}
-use Rattle.sky_turn.proofs.steps.slot_out.Goals as goal
-
-pub load-requires : goal.load-requires
-load-requires g c = (search rules, search rules, takes_at g.V.Stands.stands _ _ _ _ _ c.args.seat.now.me.0 c.args.seat.now.me.1 (search rules) (search rules) (search rules) (search rules))

@@ -1,4 +1,0 @@
-pub mod History
-pub mod Rules
-pub mod Passes
-pub mod Adding
