@@ -1,6 +1,6 @@
 -- What a change leads to, by its parts.
 use Rattle.std.specs.Prelude.{is_ok, is_none, ◌&&◌, IsTrue}
-use Rattle.std.proofs.Common.{◌≡◌, ℕ, Bool, true, false, Option, Some, None, Result, Ok, Err, OnOk, refl, sym, ap, ◌∙◌, subst}
+use Rattle.std.proofs.Common.{◌≡◌, ℕ, Bool, true, false, Option, Some, None, Result, Ok, Err, OnOk, refl, sym, ap, ◌∙◌}
 use Rattle.std.proofs.lemmas.Bool.{true≢false}
 use Rattle.std.specs.Result.{is_err}
 use Rattle.sky_base.specs.declared.cred.Cred.{Cred}

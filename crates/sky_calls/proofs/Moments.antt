@@ -2,7 +2,7 @@
 use Rattle.std.proofs.Common.{◌≡◌, ◌⊎◌, ℕ, List, [], ◌∷◌, ◌++◌, Option, Some, None, ap, sym, subst, inl}
 use Rattle.sky_outside.specs.Moments.{LeavesOnly, BesideObjects}
 use Rattle.std.proofs.lemmas.List.{append-nil}
-use Rattle.sky_outside.specs.Told.{BothTold, WhereTold}
+use Rattle.sky_outside.specs.Told.{BothTold}
 use Rattle.sky_outside.specs.declared.storage.Storage.{Ghosts}
 use Rattle.sky_outside.proofs.ToldLaws.{WhereTold-from}
 use Rattle.sky_outside.proofs.MomentLaws.{LeavesOnly-disk_start, only_read}

@@ -1,5 +1,5 @@
 -- A file tree whose changes go through a journal, and what becomes of it by a change.
-use Rattle.std.specs.Prelude.{◌≡◌, ◌⊎◌, ℕ, Bool, true, false, cond, List, [], ◌∷◌, ◌++◌}
+use Rattle.std.specs.Prelude.{◌⊎◌, ℕ, Bool, true, false, cond, List, [], ◌∷◌, ◌++◌}
 use Rattle.sky_nfs.specs.Tree.{Tree}
 use Rattle.sky_nfs.specs.declared.answer.Answer.{Answer}
 use Rattle.sky_outside.specs.Moments.{LeavesOnly, BesideObjects}

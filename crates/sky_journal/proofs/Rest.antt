@@ -1,15 +1,15 @@
 -- What a call of a journal leaves as it was: what is behind the second area, and in areas that are closed.
-use Rattle.std.proofs.Common.{◌≡◌, ◌⊎◌, ℕ, ◌+◌, ◌-◌, ◌*◌, ◌≤◌, List, drop, Option, Some, None, Result, Ok, Err, OnErr, refl, sym, ap, ◌∙◌, subst, arith, inl, inr, ⊎_elim}
+use Rattle.std.proofs.Common.{◌≡◌, ◌⊎◌, ℕ, ◌+◌, ◌-◌, ◌*◌, ◌≤◌, List, drop, Option, Some, None, Result, Ok, Err, OnErr, refl, sym, ap, ◌∙◌, subst, arith, inl, inr}
 use Rattle.std.proofs.lemmas.List.{drop-drop}
-use Rattle.sky_outside.specs.Image.{bytes_at, Torn}
+use Rattle.sky_outside.specs.Image.{Torn}
 use Rattle.sky_outside.specs.Told.{BothTold}
 use Rattle.sky_outside.proofs.ImageLaws.{Torn-again}
 use Rattle.sky_journal.specs.Laid.{BeginsAt}
-use Rattle.sky_journal.specs.Journal.{JournalView, IsJournal, IsOpenArea, start_beside, after_rotation, without_newer}
+use Rattle.sky_journal.specs.Journal.{JournalView, IsJournal, start_beside, after_rotation, without_newer}
 use Rattle.sky_journal.specs.Rest.{after_failure, LeavesRest}
 use Rattle.sky_journal.specs.declared.open_area.OpenArea.{OpenArea}
 use Rattle.sky_journal.proofs.Frames.{Torn-wider}
-use Rattle.sky_journal.proofs.Halves.{IsHalf, TornIn, beside, newer_open, older_open, IsBeside, beside_is}
+use Rattle.sky_journal.proofs.Halves.{IsHalf, TornIn, beside, newer_open, older_open, beside_is}
 
 -- ---- what is told before and after
 

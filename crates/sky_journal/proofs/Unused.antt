@@ -1,6 +1,6 @@
 -- Bytes that are not used, as a call leaves them on the disk.
 use Rattle.std.specs.Prelude.{IfSome, OnOk}
-use Rattle.std.proofs.Common.{◌≡◌, ℕ, ◌+◌, ◌≤◌, List, [], ◌∷◌, length, take, replicate, Option, Some, Result, Ok, Err, sym, ap, ◌∙◌, subst, arith}
+use Rattle.std.proofs.Common.{◌≡◌, ℕ, ◌+◌, ◌≤◌, List, [], ◌∷◌, length, Option, Some, Result, Ok, Err, sym, ap, ◌∙◌, subst, arith}
 use Rattle.std.specs.Option.{option_map}
 use Rattle.sky_outside.specs.Image.{bytes_at, written}
 use Rattle.sky_outside.specs.Told.{WhereTold}

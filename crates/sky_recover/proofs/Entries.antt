@@ -1,18 +1,17 @@
 -- The entries of a journal that has those of a history's changes, and those that are appended. Crates above cite this.
-use Rattle.std.specs.Prelude.{IfSome, IsSome}
-use Rattle.std.proofs.Common.{◌≡◌, ℕ, ◌+◌, ◌<◌, ◌≤◌, true, false, List, [], ◌∷◌, ◌++◌, length, map, Option, Some, None, Ok, refl, sym, ap, ◌∙◌, subst, arith, append_assoc}
-use Rattle.std.proofs.lemmas.List.{length-map, length-append}
+use Rattle.std.specs.Prelude.{IsSome}
+use Rattle.std.proofs.Common.{◌≡◌, ℕ, ◌+◌, true, false, List, [], ◌∷◌, ◌++◌, length, map, Option, Some, None, refl, sym, ap, ◌∙◌, arith, append_assoc}
+use Rattle.std.proofs.lemmas.List.{length-map}
 use Rattle.sky_entry.specs.Entry.{entry_bytes}
 use Rattle.sky_nfs.specs.Tree.{Tree}
 use Rattle.sky_nfs.specs.declared.call.Change.{Change}
-use Rattle.sky_journal.specs.Journal.{JournalView, IsOpenArea, IsJournal, StandsFor, entries, first_base, number_behind, numbered_in}
+use Rattle.sky_journal.specs.Journal.{JournalView, IsJournal, entries, number_behind, numbered_in}
 use Rattle.sky_journal.specs.Laid.{IsLaid}
 use Rattle.sky_journal.specs.Text.{numbered}
 use Rattle.sky_journal.specs.declared.open_area.OpenArea.{OpenArea}
-use Rattle.sky_sound.specs.Entries.{entries_above, is_of_change, journal_of}
+use Rattle.sky_sound.specs.Entries.{entries_above, is_of_change}
 use Rattle.sky_sound.proofs.Above.{above_yes, above_append}
 use Rattle.sky_sound.proofs.Bases.{first_based}
-use Rattle.sky_sound.proofs.Texts.{ok_same}
 use Rattle.sky_recover.specs.Opening.{HasEntries}
 use Rattle.sky_recover.specs.Settling.{IsRead}
 

@@ -4,7 +4,7 @@ use Rattle.sky_outside.specs.CloudMap.{CloudMap}
 use Rattle.sky_nfs.specs.History.{History, tree_after_changes}
 use Rattle.sky_journal.specs.Text.{Read}
 use Rattle.sky_sound.specs.Boot.{claimed}
-use Rattle.sky_sound.specs.Cloud.{checkpoint_in, covers_of, cloud_tree}
+use Rattle.sky_sound.specs.Cloud.{cloud_tree}
 use Rattle.sky_sound.specs.Entries.{changes_in, entries_above, journal_of, last_number}
 use Rattle.sky_sound.specs.Recovery.{Recovered, recovered, history_of, IsSound, FindsSame}
 use Rattle.sky_sound.proofs.Above.{recovered_is, history_is, history_from_entries}

@@ -1,8 +1,6 @@
 -- What a crash may leave of the journal's entries from one call of an opening to the next. Crates above cite this.
-use Rattle.std.proofs.Common.{◌≡◌, ℕ, List, Option, Some, Ok, refl, sym, ◌∙◌, subst}
-use Rattle.sky_outside.specs.CloudMap.{CloudMap}
+use Rattle.std.proofs.Common.{◌≡◌, ℕ, List, Some, Ok, refl, sym, ◌∙◌, subst}
 use Rattle.sky_outside.specs.Moments.{BesideObjects, LeavesOnly, MayLeaveNow, NothingPending, OnlyLooks}
-use Rattle.sky_outside.specs.Told.{WhereTold}
 use Rattle.sky_outside.specs.declared.storage.Storage.{Ghosts}
 use Rattle.sky_outside.proofs.ToldLaws.{WhereTold-at, WhereTold-from}
 use Rattle.sky_outside.proofs.MomentLaws.{LeavesOnly-disk_start, LeavesOnly-disk_then, LeavesOnly-then, only_read}

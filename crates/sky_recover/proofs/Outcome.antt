@@ -1,8 +1,8 @@
 -- What an opening found and left, from what its steps gave. Crates above cite this.
-use Rattle.std.specs.Prelude.{max, nat_lt, IfSome}
-use Rattle.std.proofs.Common.{◌≡◌, ℕ, ◌+◌, ◌<◌, ◌≤◌, List, length, Option, Some, None, Ok, refl, sym, ap, ◌∙◌, subst, arith}
+use Rattle.std.specs.Prelude.{nat_lt}
+use Rattle.std.proofs.Common.{◌≡◌, ℕ, ◌+◌, ◌<◌, ◌≤◌, List, length, Some, Ok, refl, sym, ap, ◌∙◌, arith}
 use Rattle.sky_calls.specs.Durable.{DurableView}
-use Rattle.sky_nfs.specs.History.{History, history_length}
+use Rattle.sky_nfs.specs.History.{History}
 use Rattle.sky_nfs.specs.Tree.{empty_tree}
 use Rattle.sky_nfs.specs.Validity.{IsValidTree}
 use Rattle.sky_nfs.specs.declared.call.Change.{Change}
@@ -10,7 +10,7 @@ use Rattle.sky_outside.specs.CloudMap.{CloudMap}
 use Rattle.sky_outside.specs.Told.{WhereTold}
 use Rattle.sky_outside.specs.declared.storage.Storage.{Ghosts}
 use Rattle.sky_outside.proofs.ToldLaws.{WhereTold-at, WhereTold-from}
-use Rattle.sky_journal.specs.Journal.{JournalView, IsJournal, entries, new_area, number_behind}
+use Rattle.sky_journal.specs.Journal.{JournalView, IsJournal, entries, number_behind}
 use Rattle.sky_journal.specs.Text.{Read}
 use Rattle.sky_sound.specs.Cloud.{epoch_after}
 use Rattle.sky_sound.specs.Entries.{changes_in, entries_above, journal_of}

@@ -1,6 +1,6 @@
 -- By what an opening is refused, and that a sound site is refused by none of it. Crates above cite this.
 use Rattle.std.specs.Prelude.{◌&&◌, IsTrue, IsErrOf}
-use Rattle.std.proofs.Common.{◌≡◌, ◌⊎◌, ⊎_elim, inl, inr, ℕ, Bool, true, false, List, [], ◌∷◌, ◌++◌, Option, Some, None, Result, Ok, Err, refl, sym, ap, ◌∙◌, subst}
+use Rattle.std.proofs.Common.{◌≡◌, ⊎_elim, inl, inr, ℕ, Bool, true, false, List, [], ◌∷◌, ◌++◌, Option, Some, None, Result, Ok, Err, refl, sym, ap, ◌∙◌, subst}
 use Rattle.std.proofs.lemmas.Bool.{true≢false}
 use Rattle.sky_base.specs.declared.place.Lost.TheVariants.{Damaged, Missing}
 use Rattle.sky_nfs.specs.History.{History, are_done, is_done, tree_after_change, tree_after_changes}
@@ -9,7 +9,7 @@ use Rattle.sky_nfs.specs.declared.call.Change.{Change}
 use Rattle.sky_outside.specs.CloudMap.{CloudMap}
 use Rattle.sky_outside.specs.Told.{WhereTold}
 use Rattle.sky_outside.specs.declared.storage.Storage.{Ghosts}
-use Rattle.sky_outside.proofs.ToldLaws.{WhereTold-at, WhereTold-from}
+use Rattle.sky_outside.proofs.ToldLaws.{WhereTold-at}
 use Rattle.sky_sound.specs.Entries.{change_of, changes_in, entries_above, journal_of, with_change}
 use Rattle.sky_sound.specs.Recovery.{IsSound}
 use Rattle.sky_sound.proofs.Above.{history_from_entries}

@@ -1,8 +1,7 @@
 use Rattle.std.proofs.Common.{◌≡◌, ◌∙◌, ap, sym, subst, true, Bool, List, ℕ}
 use Rattle.sky_calls.specs.Stable.{is_stable_call}
 use Rattle.sky_entry.specs.Entry.{entry_bytes}
-use Rattle.sky_nfs.specs.Procedure.{procedure, tree_after}
-use Rattle.sky_nfs.specs.Tree.{Tree}
+use Rattle.sky_nfs.specs.Procedure.{tree_after}
 use Rattle.sky_journal.specs.Journal.{JournalView, IsJournal, IsFramed, SameButSpare}
 use Rattle.sky_calls.specs.Durable.{DurableView, HoldsMore, Lasts, LeavesOldOrAll, entries_kept}
 use Rattle.sky_calls.proofs.Carried.{ok_at, procedure_tree}

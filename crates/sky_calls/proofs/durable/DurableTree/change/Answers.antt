@@ -1,7 +1,6 @@
-use Rattle.std.proofs.Common.{◌≡◌, ◌∙◌, ◌≤◌, ℕ, ap, sym, subst, refl, length, true, false}
+use Rattle.std.proofs.Common.{◌∙◌, ◌≤◌, ℕ, ap, sym, subst, refl, length}
 use Rattle.sky_entry.specs.Entry.{entry_bytes}
 use Rattle.sky_nfs.specs.History.{is_done}
-use Rattle.sky_nfs.specs.Tree.{Tree}
 use Rattle.sky_journal.specs.Journal.{JournalView, IsJournal, room_of, wanted_of}
 use Rattle.sky_calls.specs.Durable.{DurableView}
 use Rattle.sky_calls.proofs.Carried.{done_known, refused_stays, not_both}
