@@ -11,3 +11,6 @@ mod stable;
 
 pub use durable::DurableTree;
 pub use outcome::Outcome;
+
+#[cfg(test)]
+mod tests;
