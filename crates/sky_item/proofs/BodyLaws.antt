@@ -1,31 +1,25 @@
 -- The body of an item, behind what stands before it, is read as that item, and from no other bytes.
-use Rattle.std.proofs.Common.{◌≡◌, ℕ, zero, suc, ◌+◌, ◌-◌, ◌*◌, ◌^◌, ◌<◌, ◌≤◌, Bool, true, false, cond, eqb, Option, Some, None, List, [], ◌∷◌, ◌++◌, length, map, Result, Ok, Err, refl, sym, ap, subst, ◌∙◌, arith, lit<, lit≤, eq-eqb}
+use Rattle.std.proofs.Common.{◌≡◌, ℕ, zero, suc, ◌+◌, ◌-◌, ◌*◌, ◌≤◌, Bool, true, false, cond, eqb, List, [], ◌∷◌, ◌++◌, length, Result, Ok, Err, refl, sym, ap, subst, ◌∙◌, arith, lit≤, eq-eqb}
 use Rattle.std.specs.List.{AllByRecursion}
 use Rattle.std.proofs.lemmas.Bool.{eqb-true}
 use Rattle.std.proofs.lemmas.List.{append-nil, nil_from_length}
 use Rattle.sha2.specs.Sha256.{sha256}
 use Rattle.sky_base.specs.Limits.{max_block_bytes, max_page_slots, max_pages, max_fileid}
-use Rattle.sky_base.specs.declared.attr.Kind.TheVariants as node
 use Rattle.sky_base.specs.declared.place.ItemId.{ItemId}
 use Rattle.sky_base.specs.declared.place.Location.{Location}
 use Rattle.sky_xdr.specs.Encoding.{AreBytes}
-use Rattle.sky_item.specs.declared.item.BlockItem.{BlockItem}
-use Rattle.sky_item.specs.declared.item.CheckItem.{CheckItem}
 use Rattle.sky_item.specs.declared.item.Content.{Content}
 use Rattle.sky_item.specs.declared.item.Content.TheVariants.{Regular, Directory, SymbolicLink}
 use Rattle.sky_item.specs.declared.item.InodeItem.{InodeItem}
 use Rattle.sky_item.specs.declared.item.Item.{Item}
 use Rattle.sky_item.specs.declared.item.Item.TheVariants as kind
-use Rattle.sky_item.specs.declared.item.PageItem.{PageItem}
 use Rattle.sky_item.specs.declared.parts.Head.{Head}
-use Rattle.sky_item.specs.Encoding.{node_code, size_of, blocks_of, owner_bytes, inode_bytes, body_bytes, kind_code, id_of, block_locations, content_locations, locations_of}
+use Rattle.sky_item.specs.Encoding.{node_code, size_of, blocks_of, owner_bytes, inode_bytes, body_bytes, kind_code, id_of, content_locations, locations_of}
 use Rattle.sky_item.specs.Items.{IsLocation, IsContent, IsItem, IsId, AreAttributes, AreCheckNumbers, max_nlink}
-use Rattle.sky_item.specs.Reading.{ended, refused}
+use Rattle.sky_item.specs.Reading.{ended}
 use Rattle.sky_item.specs.Fields.{most_links, most_size, inode_at, sized, size_place, least_body, most_body, page_at, check_at, body_item}
-use Rattle.sky_item.proofs.Each.{ok_pair}
-use Rattle.sky_item.proofs.Codecs.{Read, Reads, Within}
-use Rattle.sky_item.proofs.PartLaws.{IsOwner}
-use Rattle.sky_item.proofs.NodeLaws.{kind_of, kind_number, rows_each, ContentIs, InodeIs, written_inode, inode_reads}
+use Rattle.sky_item.proofs.Codecs.{Within}
+use Rattle.sky_item.proofs.NodeLaws.{kind_of, kind_number, ContentIs, InodeIs, written_inode, inode_reads}
 use Rattle.sky_item.proofs.PageLaws.{PageIs, page_reads, CheckIs, NumbersAre, numbers_of, check_reads}
 use Rattle.sky_item.proofs.PlaceLaws.{blocks_placed, blocks_each, numbered_placed, numbered_each, fileids_each, fileids_ascend}
 use Rattle.sky_item.proofs.Sizes.{rows_few, numbered_few, ascends_few}

@@ -4,12 +4,12 @@
 --   Chain                      the same of fields one behind the other, where some of the value is known already
 --   then_reads, done_reads, by_reads    a field and those behind it; the end; the same seen otherwise
 --   each_reads                 many values, one behind the other
-use Rattle.std.proofs.Common.{◌≡◌, ℕ, zero, suc, ◌+◌, ◌-◌, ◌^◌, ◌<◌, ◌≤◌, Bool, true, false, cond, ltb, leb, ◌&&◌, List, [], ◌∷◌, ◌++◌, length, take, drop, Result, Ok, Err, refl, sym, ap, subst, ◌∙◌, append_assoc, arith}
+use Rattle.std.proofs.Common.{◌≡◌, ℕ, zero, suc, ◌^◌, ◌<◌, ◌≤◌, Bool, true, false, cond, ltb, leb, List, [], ◌∷◌, ◌++◌, length, take, drop, Result, Ok, Err, refl, sym, ap, subst, ◌∙◌, append_assoc, arith}
 use Rattle.std.specs.List.{flat_map}
 use Rattle.std.specs.Int.{w16, to_be_bytes}
-use Rattle.std.proofs.lemmas.Bool.{ltb-false, le-ltb, and_from, and_parts, cond-true, le-leb, leb-true}
+use Rattle.std.proofs.lemmas.Bool.{ltb-false, le-ltb, and_from, and_parts, le-leb, leb-true}
 use Rattle.std.proofs.lemmas.Nat.{be_bytes_2, from_be_bytes-to_be_bytes_2}
-use Rattle.std.proofs.lemmas.List.{append-nil, take_at, drop_at, take-append-drop, length-append, length-take}
+use Rattle.std.proofs.lemmas.List.{take_at, drop_at, take-append-drop, length-append, length-take}
 use Rattle.sky_xdr.specs.declared.fault.XdrFault.{XdrFault}
 use Rattle.sky_xdr.specs.Encoding.{AreBytes, uint, uhyper}
 use Rattle.sky_xdr.specs.Reading.{uint_at, uhyper_at}

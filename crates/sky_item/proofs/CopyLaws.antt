@@ -1,19 +1,18 @@
 -- An item whose links go to other places is the same item.
-use Rattle.std.proofs.Common.{◌≡◌, ℕ, ◌+◌, ◌*◌, Bool, Option, Some, None, List, [], ◌∷◌, ◌++◌, length, map, refl, sym, ap, subst, ◌∙◌}
-use Rattle.std.specs.List.{flat_map, AllByRecursion}
+use Rattle.std.proofs.Common.{◌≡◌, ℕ, Option, Some, None, List, [], ◌∷◌, ◌++◌, length, map, refl, ap, ◌∙◌}
+use Rattle.std.specs.List.{flat_map}
 use Rattle.std.proofs.lemmas.List.{length-map}
-use Rattle.sky_base.specs.Limits.{max_pages, max_page_slots}
 use Rattle.sky_base.specs.declared.place.ItemId.{ItemId}
 use Rattle.sky_base.specs.declared.place.Link.{Link}
 use Rattle.sky_base.specs.declared.place.Location.{Location}
-use Rattle.sky_xdr.specs.Encoding.{uint, uhyper}
+use Rattle.sky_xdr.specs.Encoding.{uint}
 use Rattle.sky_item.specs.declared.item.Content.{Content}
 use Rattle.sky_item.specs.declared.item.Content.TheVariants.{Regular, Directory, SymbolicLink}
 use Rattle.sky_item.specs.declared.item.Item.{Item}
 use Rattle.sky_item.specs.declared.item.Item.TheVariants as kind
 use Rattle.sky_item.specs.declared.lists.NumberedLink.{NumberedLink}
 use Rattle.sky_item.specs.Encoding.{block_bytes, numbered_bytes, all_numbered_bytes, content_bytes, node_code, size_of, inode_bytes, page_bytes, numbers_bytes, check_bytes, body_bytes, id_of, kind_code, body_of}
-use Rattle.sky_item.specs.Items.{IsLocation, IsLink, IsBlockLink, IsContent, IsItem, AscendsWithin, AreNumbered, max_nlink, AreAttributes, moved_block, moved_numbered, moved_content, moved}
+use Rattle.sky_item.specs.Items.{moved_block, moved_numbered, moved_content, moved}
 
 blocks_same : (place : ItemId → Location) (blocks : List (Option Link)) → flat_map block_bytes (map (moved_block place) blocks) ≡ flat_map block_bytes blocks
 unfolding block_bytes

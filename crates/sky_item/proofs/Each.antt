@@ -5,7 +5,7 @@
 --   each_split               values that were read are a first one and those behind it
 --   ok_pair                  what reading gives is one value and one rest
 --   pushed                   a value that was pushed
-use Rattle.std.proofs.Common.{◌≡◌, ℕ, zero, suc, Bool, true, cond, is_ok, ◌+◌, ◌<◌, ◌≤◌, List, [], ◌∷◌, ◌++◌, Result, Ok, Err, refl, sym, ap, subst, ◌∙◌, add-one, arith}
+use Rattle.std.proofs.Common.{◌≡◌, ℕ, zero, suc, Bool, true, cond, is_ok, ◌+◌, ◌<◌, List, [], ◌∷◌, ◌++◌, Result, Ok, Err, refl, sym, ap, subst, ◌∙◌, add-one, arith}
 use Rattle.sky_item.specs.declared.fault.Refusal.{Refusal}
 use Rattle.sky_item.specs.declared.fault.Refusal.TheVariants.{At, Memory}
 use Rattle.sky_item.specs.Taking.{Takes, TakesBy}

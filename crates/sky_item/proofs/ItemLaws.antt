@@ -3,12 +3,11 @@
 --   item_sound                 what is read is an item, and the bytes are its encoding
 --   one_item, no_prefix        no bytes are the encodings of two items, nor begin with that of another
 --   copy_same                  an item elsewhere is the same item
-use Rattle.std.proofs.Common.{◌≡◌, ℕ, ◌+◌, ◌-◌, ◌*◌, ◌^◌, ◌<◌, ◌≤◌, Bool, true, false, cond, ltb, eqb, List, [], ◌∷◌, ◌++◌, length, take, drop, Result, Ok, Err, refl, sym, ap, subst, ◌∙◌, append_assoc, arith, eq-eqb}
+use Rattle.std.proofs.Common.{◌≡◌, ℕ, ◌+◌, ◌-◌, ◌*◌, ◌^◌, ◌<◌, ◌≤◌, Bool, true, false, cond, ltb, eqb, List, [], ◌++◌, length, take, drop, Result, Ok, Err, refl, sym, ap, subst, ◌∙◌, append_assoc, arith, eq-eqb}
 use Rattle.std.specs.List.{flat_map, AllByRecursion}
-use Rattle.std.specs.Int.{w32, to_be_bytes}
 use Rattle.std.specs.Str.{bytes_eq}
 use Rattle.std.proofs.lemmas.Bool.{eqb-true, ltb-false, le-ltb}
-use Rattle.std.proofs.lemmas.List.{append-nil, nil_from_length, take_all, take_at, drop_at, length-append, length-take}
+use Rattle.std.proofs.lemmas.List.{nil_from_length, take_all, take_at, drop_at, length-append}
 use Rattle.std.proofs.lemmas.Nat.{from_be_bytes-to_be_bytes_4}
 use Rattle.std.proofs.lemmas.Slice.Eq.{bytes_eq-Decides}
 use Rattle.sha2.specs.Sha256.{sha256}
@@ -24,15 +23,15 @@ use Rattle.sky_item.specs.declared.item.Content.TheVariants.{Regular, Directory,
 use Rattle.sky_item.specs.declared.item.Item.{Item}
 use Rattle.sky_item.specs.declared.item.Item.TheVariants as kind
 use Rattle.sky_item.specs.declared.parts.Head.{Head}
-use Rattle.sky_item.specs.Encoding.{id_bytes, location_bytes, kind_code, id_of, content_locations, locations_of, body_bytes, item_header, item_front, item_bytes, length_of_item, length_of_body}
+use Rattle.sky_item.specs.Encoding.{id_bytes, location_bytes, kind_code, id_of, content_locations, locations_of, body_bytes, item_header, item_bytes}
 use Rattle.sky_item.specs.Items.{IsId, IsContent, IsItem, IsLocation, EncodesItem}
 use Rattle.sky_item.specs.Reading.{behind}
 use Rattle.sky_item.specs.Fields.{max_uint, least_body, most_body, count_place, head_at, locations_at, body_item, counted, item_behind, fields_of, said_start, said_length, stored_digest, computed_digest, verified, item_at}
-use Rattle.sky_item.proofs.Codecs.{Read, Reads, Within, AreEach}
+use Rattle.sky_item.proofs.Codecs.{Within}
 use Rattle.sky_item.proofs.PageLaws.{written_head, IsHead, head_same, body_bound, head_reads, locations_reads}
 use Rattle.sky_item.proofs.PlaceLaws.{locations_each, locations_all, blocks_located, numbered_located}
 use Rattle.sky_item.proofs.BodyLaws.{head_of, body_again, BodyIs, body_sound}
-use Rattle.sky_item.proofs.Sizes.{length-id_bytes, length-location_bytes, length-flat_map_of, length-body_bytes, length-item_front, length-item_bytes, links_few, body_small}
+use Rattle.sky_item.proofs.Sizes.{length-id_bytes, length-location_bytes, length-flat_map_of, length-body_bytes, links_few, body_small}
 
 -- ---- numbers at places
 

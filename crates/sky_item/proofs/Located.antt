@@ -1,5 +1,5 @@
 -- The locations of an item are those of its blocks, or of its items that go by numbers, one behind the other.
-use Rattle.std.proofs.Common.{◌≡◌, ℕ, Option, Some, None, List, [], ◌∷◌, ◌++◌, map, refl, ap}
+use Rattle.std.proofs.Common.{◌≡◌, ℕ, Option, Some, None, List, [], ◌∷◌, ◌++◌, refl, ap}
 use Rattle.std.specs.List.{flat_map}
 use Rattle.sky_base.specs.declared.place.Link.{Link}
 use Rattle.sky_item.specs.declared.lists.NumberedLink.{NumberedLink}

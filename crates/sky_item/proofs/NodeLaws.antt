@@ -1,9 +1,9 @@
 -- The bodies of inodes are read from the bytes that are their encoding, and from no others.
-use Rattle.std.proofs.Common.{◌≡◌, ℕ, zero, suc, ◌+◌, ◌-◌, ◌*◌, ◌/◌, ◌^◌, ◌<◌, ◌≤◌, Bool, true, false, cond, eqb, ◌&&◌, Option, Some, None, List, [], ◌∷◌, ◌++◌, length, Result, Ok, Err, refl, sym, ap, subst, ◌∙◌, append_assoc, arith, lit<, lit≤}
+use Rattle.std.proofs.Common.{◌≡◌, ℕ, ◌-◌, ◌^◌, ◌<◌, ◌≤◌, Bool, true, false, cond, eqb, Option, Some, None, List, [], ◌∷◌, ◌++◌, length, Result, Ok, refl, sym, ap, subst, ◌∙◌, append_assoc, arith, lit<, lit≤}
 use Rattle.std.specs.List.{flat_map, AllByRecursion}
 use Rattle.std.proofs.lemmas.Bool.{eqb-true, and_parts}
 use Rattle.std.proofs.lemmas.List.{append-nil}
-use Rattle.sky_base.specs.Limits.{max_file_bytes, max_directory_bytes, max_link_text_bytes, max_name_bytes, max_fileid, max_links, max_cookie}
+use Rattle.sky_base.specs.Limits.{max_file_bytes, max_link_text_bytes, max_name_bytes, max_fileid, max_cookie}
 use Rattle.sky_base.specs.declared.attr.Kind.{Kind}
 use Rattle.sky_base.specs.declared.attr.Kind.TheVariants as node
 use Rattle.sky_base.specs.declared.place.ItemId.{ItemId}
@@ -15,12 +15,12 @@ use Rattle.sky_item.specs.declared.item.Content.{Content}
 use Rattle.sky_item.specs.declared.item.Content.TheVariants.{Regular, Directory, SymbolicLink}
 use Rattle.sky_item.specs.declared.item.InodeItem.{InodeItem}
 use Rattle.sky_item.specs.declared.parts.Owner.{Owner}
-use Rattle.sky_item.specs.Encoding.{ushort, id_bytes, hole, is_hole, block_bytes, row_bytes, blocks_of, content_bytes, node_code, size_of, times_bytes, verifier_bytes, owner_bytes, inode_bytes}
-use Rattle.sky_item.specs.Items.{IsId, IsRow, FitsUint, AreTimes, IsVerifier, AreAttributes, max_nlink}
-use Rattle.sky_item.specs.Reading.{Reader, refused, behind, bind, give, uint_within, uhyper_within, raw_at, ushort_up_to, each_at}
-use Rattle.sky_item.specs.Fields.{max_uint, max_uhyper, id_at, next_location, block_at, locations_behind, blocks_at, row_at, rows_at, regular_at, directory_at, link_at, content_at, kind_or_refused, node_kind_at, most_links, most_size, owner_at, times_at, verifier_at, inode_at}
+use Rattle.sky_item.specs.Encoding.{id_bytes, hole, is_hole, block_bytes, row_bytes, blocks_of, content_bytes, times_bytes, verifier_bytes}
+use Rattle.sky_item.specs.Items.{IsId, IsRow, AreTimes, IsVerifier}
+use Rattle.sky_item.specs.Reading.{refused, behind, uint_within}
+use Rattle.sky_item.specs.Fields.{max_uint, max_uhyper, next_location, block_at, locations_behind, blocks_at, row_at, rows_at, regular_at, directory_at, link_at, content_at, kind_or_refused, node_kind_at, most_links, most_size, inode_at}
 use Rattle.sky_item.proofs.Each.{ok_pair}
-use Rattle.sky_item.proofs.Codecs.{Read, Reads, Chain, Within, Any, Bound, bound_by, uint_reads, uhyper_reads, ushort_reads, raw_reads, each_reads, EachIs, AreEach, then_reads, last_reads, by_reads, as_reads, by_chain, written_chain}
+use Rattle.sky_item.proofs.Codecs.{Reads, Within, Any, bound_by, uint_reads, uhyper_reads, ushort_reads, raw_reads, each_reads, EachIs, then_reads, last_reads, by_reads, as_reads, by_chain}
 use Rattle.sky_item.proofs.PartLaws.{id_reads, times_reads, owner_reads, IsOwner, written_owner, verifier_reads}
 
 -- ---- kinds

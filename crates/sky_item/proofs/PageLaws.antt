@@ -1,27 +1,25 @@
 -- The bodies of pages and checkpoints, and what stands before the body of an item, are read from the bytes that are their
 -- encoding, and from no others.
-use Rattle.std.proofs.Common.{◌≡◌, ℕ, zero, suc, ◌+◌, ◌-◌, ◌*◌, ◌^◌, ◌<◌, ◌≤◌, Bool, true, false, cond, eqb, List, [], ◌∷◌, ◌++◌, length, map, refl, sym, ap, subst, ◌∙◌, append_assoc, arith, lit<, lit≤}
-use Rattle.std.specs.List.{flat_map, AllByRecursion}
+use Rattle.std.proofs.Common.{◌≡◌, ℕ, ◌+◌, ◌-◌, ◌*◌, ◌^◌, ◌<◌, ◌≤◌, Bool, true, false, cond, eqb, List, [], ◌++◌, length, refl, sym, ap, subst, ◌∙◌, append_assoc, arith, lit<, lit≤}
+use Rattle.std.specs.List.{flat_map}
 use Rattle.std.proofs.lemmas.List.{append-nil}
 use Rattle.sky_base.specs.Limits.{max_number, max_page_slots, max_pages, max_fileid, max_volume}
 use Rattle.sky_base.specs.declared.place.ItemId.{ItemId}
 use Rattle.sky_base.specs.declared.place.Link.{Link}
 use Rattle.sky_base.specs.declared.place.Location.{Location}
 use Rattle.sky_xdr.specs.Encoding.{uint, uhyper}
-use Rattle.sky_item.specs.declared.item.BlockItem.{BlockItem}
 use Rattle.sky_item.specs.declared.item.CheckItem.{CheckItem}
-use Rattle.sky_item.specs.declared.item.InodeItem.{InodeItem}
 use Rattle.sky_item.specs.declared.item.Item.{Item}
 use Rattle.sky_item.specs.declared.item.Item.TheVariants as kind
 use Rattle.sky_item.specs.declared.item.PageItem.{PageItem}
 use Rattle.sky_item.specs.declared.lists.NumberedLink.{NumberedLink}
 use Rattle.sky_item.specs.declared.parts.CheckNumbers.{CheckNumbers}
 use Rattle.sky_item.specs.declared.parts.Head.{Head}
-use Rattle.sky_item.specs.Encoding.{id_bytes, location_bytes, numbered_bytes, all_numbered_bytes, page_bytes, numbers_bytes, check_bytes, body_bytes, numbered_locations}
-use Rattle.sky_item.specs.Items.{IsId, IsLocation, IsLink, FitsUint, AscendsWithin, AreCheckNumbers}
-use Rattle.sky_item.specs.Reading.{bind, give, uint_within, uhyper_within, raw_at, each_at}
-use Rattle.sky_item.specs.Fields.{max_uint, id_at, location_at, locations_at, next_location, numbered_at, numbers_behind, all_numbered_at, page_at, check_numbers_at, fileids_at, check_at, least_body, most_body, head_at}
-use Rattle.sky_item.proofs.Codecs.{Reads, Chain, Within, Any, uint_reads, uhyper_reads, raw_reads, each_reads, EachIs, AreEach, then_reads, last_reads, by_reads, as_reads, by_chain}
+use Rattle.sky_item.specs.Encoding.{id_bytes, location_bytes, numbered_bytes, all_numbered_bytes, page_bytes, numbers_bytes, check_bytes, body_bytes}
+use Rattle.sky_item.specs.Items.{IsId, IsLocation}
+use Rattle.sky_item.specs.Reading.{uhyper_within}
+use Rattle.sky_item.specs.Fields.{max_uint, location_at, locations_at, next_location, numbered_at, numbers_behind, all_numbered_at, page_at, check_numbers_at, fileids_at, check_at, least_body, most_body, head_at}
+use Rattle.sky_item.proofs.Codecs.{Reads, Within, Any, uint_reads, uhyper_reads, raw_reads, each_reads, EachIs, AreEach, then_reads, last_reads, by_reads, as_reads, by_chain}
 use Rattle.sky_item.proofs.PartLaws.{id_reads, location_reads}
 
 -- ---- items that go by numbers

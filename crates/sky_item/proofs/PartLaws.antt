@@ -1,5 +1,5 @@
 -- The parts of items are read from the bytes that are their encoding, and from no others.
-use Rattle.std.proofs.Common.{◌≡◌, ℕ, zero, suc, ◌+◌, ◌-◌, ◌*◌, ◌^◌, ◌<◌, ◌≤◌, Bool, true, false, cond, eqb, ◌&&◌, Option, Some, None, List, [], ◌∷◌, ◌++◌, length, refl, sym, ap, subst, ◌∙◌, append_assoc, arith, lit<}
+use Rattle.std.proofs.Common.{◌≡◌, ℕ, zero, suc, ◌-◌, ◌^◌, ◌<◌, ◌≤◌, Option, Some, None, List, [], ◌++◌, length, refl, sym, ap, ◌∙◌, append_assoc, arith, lit<}
 use Rattle.std.proofs.lemmas.List.{append-nil}
 use Rattle.sky_base.specs.Limits.{max_number, max_object_bytes}
 use Rattle.sky_base.specs.declared.object.Dir.{Dir}
@@ -12,7 +12,7 @@ use Rattle.sky_item.specs.declared.item.Times.{Times}
 use Rattle.sky_item.specs.declared.parts.Owner.{Owner}
 use Rattle.sky_item.specs.Encoding.{id_bytes, dir_code, location_bytes, moment_bytes, times_bytes, verifier_bytes}
 use Rattle.sky_item.specs.Items.{IsId, IsLocation, IsMoment, AreTimes, IsVerifier, FitsUint, max_mode}
-use Rattle.sky_item.specs.Reading.{bind, give, uint_within, uhyper_within, raw_at}
+use Rattle.sky_item.specs.Reading.{give}
 use Rattle.sky_item.specs.Fields.{max_uint, max_uhyper, id_at, dir_of, location_at, moment_at, times_at, owner_at, kept_or_zero, verifier_at}
 use Rattle.sky_item.proofs.Codecs.{Reads, Chain, Within, Any, uint_reads, uhyper_reads, then_reads, last_reads, by_reads, by_chain, done_reads, written_chain, raw_reads}
 

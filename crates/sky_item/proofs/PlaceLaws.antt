@@ -1,15 +1,15 @@
 -- What an item links to lies at its locations, in order: where the number of these is that of the links, they are the links'.
-use Rattle.std.proofs.Common.{◌≡◌, ℕ, zero, suc, ◌+◌, ◌-◌, ◌*◌, ◌^◌, ◌<◌, ◌≤◌, Bool, false, Option, Some, None, List, [], ◌∷◌, ◌++◌, length, drop, map, refl, sym, ap, subst, ◌∙◌, arith}
+use Rattle.std.proofs.Common.{◌≡◌, ℕ, ◌+◌, ◌≤◌, Option, Some, None, List, [], ◌∷◌, length, map, refl, sym, ap, subst, ◌∙◌, arith}
 use Rattle.std.specs.List.{AllByRecursion}
-use Rattle.std.proofs.lemmas.List.{nil_from_length, length-map}
+use Rattle.std.proofs.lemmas.List.{nil_from_length}
 use Rattle.sky_base.specs.Limits.{max_fileid}
 use Rattle.sky_base.specs.declared.place.Link.{Link}
 use Rattle.sky_base.specs.declared.place.Location.{Location}
 use Rattle.sky_item.specs.declared.lists.NumberedLink.{NumberedLink}
-use Rattle.sky_item.specs.Encoding.{is_hole, block_locations, numbered_locations}
-use Rattle.sky_item.specs.Items.{IsId, IsLocation, IsLink, IsBlockLink, AscendsWithin, AreNumbered}
-use Rattle.sky_item.specs.Fields.{next_location, locations_behind, numbers_behind}
-use Rattle.sky_item.proofs.Codecs.{Within, EachIs}
+use Rattle.sky_item.specs.Encoding.{block_locations, numbered_locations}
+use Rattle.sky_item.specs.Items.{IsLocation, IsLink, IsBlockLink, AscendsWithin, AreNumbered}
+use Rattle.sky_item.specs.Fields.{locations_behind, numbers_behind}
+use Rattle.sky_item.proofs.Codecs.{EachIs}
 use Rattle.sky_item.proofs.NodeLaws.{BlockIs}
 use Rattle.sky_item.proofs.PageLaws.{NumberedIs, FileidIs}
 

@@ -1,7 +1,7 @@
 -- A write behind what was written before.
 --   puts_then, stops_then     two writes, one behind the other, and where the first has no room
 --   appends_stops             where one of a list has no room
-use Rattle.std.proofs.Common.{◌≡◌, ℕ, ◌+◌, ◌≤◌, ◌<◌, Result, Ok, Err, List, ◌++◌, get_or, length, take, drop, sym, ap, ◌∙◌, append_assoc, arith}
+use Rattle.std.proofs.Common.{ℕ, ◌<◌, Result, Ok, Err, List, ◌++◌, get_or, length, take, drop, sym, ap, ◌∙◌, append_assoc, arith}
 use Rattle.std.proofs.lemmas.List.{length-append, drop-drop}
 use Rattle.std.proofs.lemmas.List.Folds.{length-flat_map-take}
 use Rattle.std.specs.List.{flat_map}

@@ -1,5 +1,5 @@
 -- What a call returned that gives what reading gives.
-use Rattle.std.proofs.Common.{◌≡◌, ℕ, List, Result, Ok, Err, IfOk, subst}
+use Rattle.std.proofs.Common.{ℕ, List, Result, Ok, Err, IfOk, subst}
 use Rattle.sky_base.specs.declared.place.Damage.{Damage}
 use Rattle.sky_xdr.specs.Encoding.{AreBytes}
 use Rattle.sky_item.specs.declared.fault.ItemFault.{ItemFault}

@@ -3,8 +3,8 @@
 --   length-content_bytes, length-inode_bytes, length-page_bytes, length-check_bytes, length-body_bytes, length-item_bytes
 --   few_blocks, few_rows, ascends_few      how many values the lists of an item have
 --   body_small, item_small                 a body, and an item, have fewer than 2^32 bytes
-use Rattle.std.proofs.Common.{◌≡◌, ℕ, zero, suc, ◌+◌, ◌-◌, ◌*◌, ◌/◌, ◌^◌, ◌<◌, ◌≤◌, Option, Some, None, List, [], ◌∷◌, ◌++◌, length, map, cond, count_by, is_some, refl, sym, ap, ◌∙◌, arith}
-use Rattle.std.specs.List.{flat_map, AllByRecursion}
+use Rattle.std.proofs.Common.{◌≡◌, ℕ, ◌+◌, ◌-◌, ◌*◌, ◌^◌, ◌<◌, ◌≤◌, Option, Some, None, List, [], ◌∷◌, length, cond, count_by, is_some, refl, arith}
+use Rattle.std.specs.List.{flat_map}
 use Rattle.std.proofs.lemmas.List.{length-append, length-map}
 use Rattle.std.proofs.lemmas.List.Sums.{sum_by-cons}
 use Rattle.sha2.proofs.Facts256.{length-sha256}
@@ -13,7 +13,7 @@ use Rattle.sky_base.specs.declared.moment.Moment.{Moment}
 use Rattle.sky_base.specs.declared.place.ItemId.{ItemId}
 use Rattle.sky_base.specs.declared.place.Link.{Link}
 use Rattle.sky_base.specs.declared.place.Location.{Location}
-use Rattle.sky_xdr.specs.Encoding.{uint, uhyper}
+use Rattle.sky_xdr.specs.Encoding.{uhyper}
 use Rattle.sky_xdr.proofs.Numbers.{length-uint, length-uhyper}
 use Rattle.sky_item.specs.declared.item.Attributes.{Attributes}
 use Rattle.sky_item.specs.declared.item.CheckItem.{CheckItem}
@@ -25,8 +25,8 @@ use Rattle.sky_item.specs.declared.item.Item.TheVariants as kind
 use Rattle.sky_item.specs.declared.item.PageItem.{PageItem}
 use Rattle.sky_item.specs.declared.item.Times.{Times}
 use Rattle.sky_item.specs.declared.lists.NumberedLink.{NumberedLink}
-use Rattle.sky_item.specs.Encoding.{ushort, id_bytes, location_bytes, block_bytes, row_bytes, size_of_rows, size_of, blocks_of, block_locations, content_locations, content_bytes, moment_bytes, times_bytes, verifier_bytes, owner_bytes, inode_bytes, numbered_bytes, all_numbered_bytes, page_bytes, numbers_bytes, check_bytes, body_bytes, locations_of, length_of_content, length_of_body, length_of_item, item_header, item_front, item_bytes}
-use Rattle.sky_item.specs.Items.{IsVerifier, AscendsWithin, AreNumbered, AreAttributes, IsContent, IsItem}
+use Rattle.sky_item.specs.Encoding.{ushort, id_bytes, location_bytes, block_bytes, row_bytes, size_of_rows, block_locations, content_locations, content_bytes, moment_bytes, times_bytes, verifier_bytes, owner_bytes, inode_bytes, numbered_bytes, all_numbered_bytes, page_bytes, numbers_bytes, check_bytes, body_bytes, locations_of, length_of_content, length_of_body, length_of_item, item_header, item_front, item_bytes}
+use Rattle.sky_item.specs.Items.{IsVerifier, AscendsWithin, AreNumbered, IsContent, IsItem}
 
 pub length-flat_map_of : {X : Type 0} (f : X → List ℕ) (k : ℕ) (xs : List X) → ((x : X) → length (f x) ≡ k) → length (flat_map f xs) ≡ k * length xs
 length-flat_map_of f k [] each = omega arith

@@ -1,5 +1,5 @@
 -- The fields of items, in the order in which they stand, each with what it is judged by.
-use Rattle.std.specs.Prelude.{ℕ, ◌+◌, ◌-◌, ◌*◌, ◌^◌, ◌==◌, Bool, Option, Some, None, List, [], ◌∷◌, length, take, drop, Result, Ok, Err, nat_lt, if◌then◌else◌}
+use Rattle.std.specs.Prelude.{ℕ, ◌+◌, ◌-◌, ◌*◌, ◌^◌, ◌==◌, Option, Some, None, List, [], ◌∷◌, length, take, drop, Result, Ok, Err, nat_lt, if◌then◌else◌}
 use Rattle.std.specs.Str.{bytes_eq}
 use Rattle.sha2.specs.Sha256.{sha256}
 use Rattle.sky_base.specs.Limits.{max_number, max_block_bytes, max_page_slots, max_pages, max_object_bytes, max_file_bytes, max_directory_bytes, max_link_text_bytes, max_name_bytes, max_fileid, max_links, max_cookie, max_volume}
@@ -14,14 +14,11 @@ use Rattle.sky_base.specs.declared.place.ItemId.{ItemId}
 use Rattle.sky_base.specs.declared.place.Link.{Link}
 use Rattle.sky_base.specs.declared.place.Location.{Location}
 use Rattle.sky_xdr.specs.Reading.{word}
-use Rattle.sky_item.specs.declared.item.Attributes.{Attributes}
-use Rattle.sky_item.specs.declared.item.CheckItem.{CheckItem}
 use Rattle.sky_item.specs.declared.item.Content.{Content}
 use Rattle.sky_item.specs.declared.item.Content.TheVariants.{Regular, Directory, SymbolicLink}
 use Rattle.sky_item.specs.declared.item.InodeItem.{InodeItem}
 use Rattle.sky_item.specs.declared.item.Item.{Item}
 use Rattle.sky_item.specs.declared.item.Item.TheVariants as kind
-use Rattle.sky_item.specs.declared.item.PageItem.{PageItem}
 use Rattle.sky_item.specs.declared.item.Times.{Times}
 use Rattle.sky_item.specs.declared.lists.NumberedLink.{NumberedLink}
 use Rattle.sky_item.specs.declared.parts.Head.{Head}
@@ -29,7 +26,7 @@ use Rattle.sky_item.specs.declared.parts.Owner.{Owner}
 use Rattle.sky_item.specs.declared.parts.CheckNumbers.{CheckNumbers}
 use Rattle.sky_item.specs.Encoding.{header_bytes, location_size, is_hole, blocks_of, size_of, locations_of}
 use Rattle.sky_item.specs.Items.{max_mode}
-use Rattle.sky_item.specs.Reading.{Reader, refused, behind, bind, ◌>>=◌, give, uint_within, uhyper_within, raw_at, ushort_up_to, each_at, ended}
+use Rattle.sky_item.specs.Reading.{Reader, refused, behind, ◌>>=◌, give, uint_within, uhyper_within, raw_at, ushort_up_to, each_at, ended}
 
 -- the largest numbers of four bytes and of eight: of a field that is not judged
 abbrev pub max_uint : ℕ

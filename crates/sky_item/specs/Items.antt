@@ -1,5 +1,5 @@
 -- Which values are items of the format, and which bytes are their encoding.
-use Rattle.std.specs.Prelude.{◌≡◌, ℕ, ◌+◌, ◌-◌, ◌*◌, ◌^◌, ◌<◌, ◌≤◌, Bool, true, false, Option, Some, None, List, [], ◌∷◌, length, map}
+use Rattle.std.specs.Prelude.{◌≡◌, ℕ, ◌+◌, ◌-◌, ◌*◌, ◌^◌, ◌<◌, ◌≤◌, false, Option, Some, None, List, [], ◌∷◌, length, map}
 use Rattle.std.specs.List.{AllByRecursion}
 use Rattle.sky_base.specs.Limits.{max_number, max_block_bytes, max_page_slots, max_pages, max_object_bytes, max_file_bytes, max_directory_bytes, max_link_text_bytes, max_name_bytes, max_fileid, max_links, max_cookie, max_volume}
 use Rattle.sky_base.specs.declared.moment.Moment.{Moment}
@@ -10,10 +10,8 @@ use Rattle.sky_item.specs.declared.item.Attributes.{Attributes}
 use Rattle.sky_item.specs.declared.item.CheckItem.{CheckItem}
 use Rattle.sky_item.specs.declared.item.Content.{Content}
 use Rattle.sky_item.specs.declared.item.Content.TheVariants.{Regular, Directory, SymbolicLink}
-use Rattle.sky_item.specs.declared.item.InodeItem.{InodeItem}
 use Rattle.sky_item.specs.declared.item.Item.{Item}
 use Rattle.sky_item.specs.declared.item.Item.TheVariants as kind
-use Rattle.sky_item.specs.declared.item.PageItem.{PageItem}
 use Rattle.sky_item.specs.declared.item.Times.{Times}
 use Rattle.sky_item.specs.declared.lists.NumberedLink.{NumberedLink}
 use Rattle.sky_item.specs.Encoding.{is_hole, blocks_of, size_of_rows, item_bytes}

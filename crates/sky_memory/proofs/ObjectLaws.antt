@@ -1,5 +1,5 @@
 -- Objects in memory, as a map of them, against the entries of the map that holds them.
-use Rattle.std.proofs.Common.{◌≡◌, ◌≢◌, ℕ, Bool, true, false, cond, List, [], ◌∷◌, map, Option, Some, None, Vec, Bor, All, Ordering, IsTrue, T, refl, sym, ◌∙◌, ap, subst, arith}
+use Rattle.std.proofs.Common.{◌≡◌, ◌≢◌, ℕ, false, cond, List, [], ◌∷◌, map, Option, Some, None, Vec, Bor, All, Ordering, IsTrue, T, refl, sym, ◌∙◌, ap, subst, arith}
 use Rattle.std.proofs.lemmas.List.{get_or-map, length-map}
 use Rattle.std.specs.Option.{option_map, option_copied}
 use Rattle.std.specs.declared.alloc.Global.{Global}
@@ -10,16 +10,16 @@ use Rattle.std.proofs.lemmas.Bool.{and_from}
 use Rattle.std.specs.Map.{keys_of, lookup}
 use Rattle.std.specs.List.Sorted.{IsStrictlySortedBy}
 use Rattle.std.specs.BTreeMap.{BTreeMap, Updates, is_at}
-use Rattle.std.specs.FinMap.{find, get, entries, from_entries, from_sorted, is_sorted, get-from_entries, get-from_sorted, entries-from_sorted}
+use Rattle.std.specs.FinMap.{find, get, entries, from_sorted, is_sorted, get-from_entries, get-from_sorted, entries-from_sorted}
 use Rattle.std.specs.FinMap.Entries.{below_all}
 use Rattle.std.proofs.lemmas.Map.Made.{lookup-map_values}
 use Rattle.sky_base.specs.declared.object.SegName.{SegName}
 use Rattle.sky_outside.specs.declared.site.Held.{Held}
-use Rattle.sky_outside.specs.CloudMap.{CloudMap, after_put, after_removal, held_of, listing}
+use Rattle.sky_outside.specs.CloudMap.{after_put, after_removal, held_of, listing}
 use Rattle.sky_outside.proofs.CloudLaws.{names_total, same_objects, is_put, is_removal}
 use Rattle.sky_base.specs.Order.{name_order}
 use Rattle.sky_base.proofs.OrderLaws.{name_cmp, name_cmp_is, is_at-other}
-use Rattle.sky_memory.specs.Objects.{IsInRange, map_of, pairs_of}
+use Rattle.sky_memory.specs.Objects.{map_of, pairs_of}
 
 -- the names that are listed
 names_listed : (es : List (SegName × Vec ℕ Global)) → map (λ (h : Held). h.name) (map held_of (pairs_of es)) ≡ keys_of es

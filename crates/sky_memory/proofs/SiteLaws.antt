@@ -1,5 +1,5 @@
 -- What a call of a site in memory does to what it holds.
-use Rattle.std.proofs.Common.{◌≡◌, ℕ, Bool, true, false, cond, List, [], ◌∷◌, ◌++◌, refl, sym, ◌∙◌, ap, subst}
+use Rattle.std.proofs.Common.{◌≡◌, ℕ, Bool, true, false, cond, List, [], ◌∷◌, ◌++◌, refl, sym, ◌∙◌, ap}
 use Rattle.sky_base.specs.declared.object.SegName.{SegName}
 use Rattle.sky_outside.specs.CloudMap.{CloudMap, after_put, after_removal}
 use Rattle.sky_memory.specs.Past.{SiteAt, Call, after_step, after_call, after_calls, overwritten}

@@ -1,5 +1,5 @@
 -- What a call of a site in memory does, by what a disk and a cloud tell.
-use Rattle.std.proofs.Common.{◌≡◌, ◌⊎◌, ⊎_elim, inl, inr, ◌↔◌, ℕ, ◌+◌, ◌≤◌, nat_le, Bool, true, false, cond, List, [], ◌∷◌, ◌++◌, length, take, Option, Some, Result, Ok, Err, OnOk, OnErr, IsErrOf, arith, refl, sym, ◌∙◌, ap, subst}
+use Rattle.std.proofs.Common.{◌≡◌, ◌⊎◌, ⊎_elim, inl, inr, ◌↔◌, ℕ, ◌+◌, ◌≤◌, Bool, true, false, cond, List, [], ◌∷◌, ◌++◌, length, take, Some, Result, Ok, Err, OnOk, OnErr, arith, refl, sym, ◌∙◌, ap, subst}
 use Rattle.std.proofs.lemmas.List.{take-append-le, take_all, length-append}
 use Rattle.std.proofs.lemmas.Bool.Decides.{leb_tells}
 use Rattle.sky_base.specs.declared.object.SegName.{SegName}
@@ -8,19 +8,19 @@ use Rattle.sky_outside.specs.declared.site.PutFault.{PutFault}
 use Rattle.sky_outside.specs.declared.site.PutFault.TheVariants.{Memory}
 use Rattle.sky_outside.specs.Image.{written, Torn}
 use Rattle.sky_outside.specs.CloudMap.{CloudMap, after_put, after_removal, Happened, HappenedOrNot}
-use Rattle.sky_outside.specs.Moments.{MayLeaveNow, TellsCrashes, SameDisk, SameCloud, Elapses}
+use Rattle.sky_outside.specs.Moments.{SameDisk, SameCloud, Elapses}
 use Rattle.sky_outside.proofs.ImageLaws.{Torn-none}
 use Rattle.sky_memory.specs.Device.{SiteState}
-use Rattle.sky_memory.specs.Past.{SiteAt, Call, at_first, after_step, after_call, after_calls, overwritten, LeavesImage, Leaves, LeavesSince}
-use Rattle.sky_memory.specs.PastLaws.{overwritten-torn, written_or_not, whole_now, size_now}
+use Rattle.sky_memory.specs.Past.{SiteAt, Call, at_first, after_step, after_calls, overwritten, LeavesImage, Leaves, LeavesSince}
+use Rattle.sky_memory.specs.PastLaws.{written_or_not, whole_now, size_now}
 use Rattle.sky_memory.specs.MemSite.{MemSiteState, now_at, Made}
-use Rattle.sky_memory.specs.Record.{RecordState, noted, after_next, happens, answer_of, put_answer_of}
+use Rattle.sky_memory.specs.Record.{RecordState, after_next, answer_of, put_answer_of}
 use Rattle.sky_memory.specs.declared.record.Step.{Step}
 use Rattle.sky_memory.specs.declared.record.Step.TheVariants.{Look, Write, Sync, Put, Remove}
 use Rattle.sky_memory.specs.declared.fate.Fate.{Fate}
 use Rattle.sky_memory.specs.declared.fate.Fate.TheVariants.{Beyond, Fails, Goes}
 use Rattle.sky_memory.specs.contracts.mem_site.MemSiteStorage.TheImpl as storage
-use Rattle.sky_memory.proofs.SiteLaws.{after_fate, at_kept, image_after, objects_after, written_after, writes, changes_objects}
+use Rattle.sky_memory.proofs.SiteLaws.{after_fate, at_kept, image_after, objects_after, writes, changes_objects}
 
 -- a write where it fits
 written_fits : (image : List ℕ) (at : ℕ) (bytes : List ℕ) → at + length bytes ≤ length image → overwritten image at bytes ≡ written image at bytes

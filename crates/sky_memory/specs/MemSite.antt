@@ -1,12 +1,11 @@
 -- What there is to see of a site in memory that keeps a record of its calls.
-use Rattle.std.specs.Prelude.{◌≡◌, ℕ, List, [], IsTrue, Result}
+use Rattle.std.specs.Prelude.{◌≡◌, ℕ, List}
 use Rattle.sky_memory.specs.Device.{SiteState}
-use Rattle.sky_memory.specs.Past.{SiteAt, Call, at_first, after_calls}
-use Rattle.sky_memory.specs.Record.{RecordState, next_fate, after_next, answer_of}
+use Rattle.sky_memory.specs.Past.{SiteAt, at_first, after_calls}
+use Rattle.sky_memory.specs.Record.{RecordState, next_fate, after_next}
 use Rattle.sky_memory.specs.declared.fate.Fail.{Fail}
 use Rattle.sky_memory.specs.declared.fate.Fate.{Fate}
 use Rattle.sky_memory.specs.declared.record.Step.{Step}
-use Rattle.sky_outside.specs.declared.stream.Failed.{Failed}
 
 -- what it began with, its calls so far, which of them fail, and how many of the disk's and of the cloud's failed
 pub record MemSiteState : Type 0 where

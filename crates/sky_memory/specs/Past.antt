@@ -1,6 +1,5 @@
 -- What a site in memory holds after each of its calls, and what a stop within one leaves.
-use Rattle.std.specs.Prelude.{◌≡◌, ℕ, zero, suc, ◌+◌, ◌-◌, ◌≤◌, nat_le, ◌==◌, Bool, true, false, cond, List, [], ◌∷◌, length, map, take}
-use Rattle.sky_base.specs.declared.object.SegName.{SegName}
+use Rattle.std.specs.Prelude.{◌≡◌, ℕ, zero, suc, ◌+◌, ◌-◌, ◌≤◌, nat_le, ◌==◌, Bool, false, cond, List, [], ◌∷◌, length, map, take}
 use Rattle.sky_outside.specs.Image.{written, Torn}
 use Rattle.sky_outside.specs.CloudMap.{CloudMap, after_put, after_removal}
 use Rattle.sky_memory.specs.Device.{SiteState}

@@ -1,11 +1,10 @@
 -- What a site in memory keeps of its calls, and how the next one goes.
-use Rattle.std.specs.Prelude.{◌≡◌, ℕ, ◌+◌, ◌<◌, ◌≤◌, nat_lt, nat_le, ◌==◌, ◌&&◌, Bool, true, false, cond, List, [], ◌∷◌, ◌++◌, length, find, Option, None, Some, Result}
+use Rattle.std.specs.Prelude.{ℕ, ◌+◌, nat_lt, nat_le, ◌==◌, ◌&&◌, Bool, true, false, cond, List, [], ◌∷◌, ◌++◌, length, find, Option, None, Some, Result}
 use Rattle.std.specs.declared.result.Result.TheVariants.{Ok, Err}
 use Rattle.sky_outside.specs.declared.stream.Failed.{Failed}
 use Rattle.sky_outside.specs.declared.site.PutFault.{PutFault}
 use Rattle.sky_outside.specs.declared.site.PutFault.TheVariants.{Failed as PutFailed}
 use Rattle.sky_memory.specs.Past.{Call}
-use Rattle.sky_memory.specs.Device.{SiteState}
 use Rattle.sky_memory.specs.declared.record.Step.{Step}
 use Rattle.sky_memory.specs.declared.fate.Fail.{Fail}
 use Rattle.sky_memory.specs.declared.fate.Fate.{Fate}

@@ -5,7 +5,7 @@
 --   more_is_draft                  with one more item an object can still become one of the format
 --   lies_there                     an item lies where it was added
 --   done_is_object                 what is made is an object
-use Rattle.std.proofs.Common.{◌≡◌, ℕ, zero, suc, ◌+◌, ◌-◌, ◌*◌, ◌^◌, ◌<◌, ◌≤◌, Bool, true, false, not, ◌&&◌, ◌||◌, eqb, leb, List, [], ◌∷◌, ◌++◌, length, take, drop, Result, Ok, Err, refl, sym, ap, subst, ◌∙◌, append_assoc, arith}
+use Rattle.std.proofs.Common.{◌≡◌, ℕ, ◌+◌, ◌^◌, ◌<◌, ◌≤◌, Bool, true, false, not, ◌||◌, eqb, leb, List, [], ◌∷◌, ◌++◌, length, take, drop, Result, Ok, refl, sym, ap, subst, ◌∙◌, append_assoc, arith}
 use Rattle.std.specs.List.{flat_map, AllByRecursion}
 use Rattle.std.proofs.lemmas.Bool.{and_parts, leb-true, eqb-true}
 use Rattle.std.proofs.lemmas.Grind.{flat_map-append}
@@ -16,15 +16,15 @@ use Rattle.sky_base.specs.declared.place.Damage.{Damage}
 use Rattle.sky_base.specs.declared.place.Location.{Location}
 use Rattle.sky_item.specs.declared.item.Item.{Item}
 use Rattle.sky_item.specs.Encoding.{item_bytes, length_of_item}
-use Rattle.sky_item.specs.Items.{IsItem, IsLocation, EncodesItem}
+use Rattle.sky_item.specs.Items.{IsItem, IsLocation}
 use Rattle.sky_item.proofs.Sizes.{length-item_bytes}
 use Rattle.sky_xdr.specs.Encoding.{uint}
 use Rattle.sky_segment.specs.Objects.{object_header, object_header_bytes, object_bytes, may_stand, IsObject, LiesAt}
-use Rattle.sky_segment.specs.Damages.{count_place, items_at, object_at}
+use Rattle.sky_segment.specs.Damages.{count_place, items_at}
 use Rattle.sky_segment.specs.Drafts.{Draft, IsDraft, IsKept, size_of_draft, is_complete, takes_kind, with_item, has_room, next_place, items_or_none, kept_items, draft_of}
 use Rattle.sky_segment.proofs.ItemsRead.{items_again}
 use Rattle.sky_segment.proofs.Headers.{length-object_header, header_counted}
-use Rattle.sky_segment.proofs.ObjectLaws.{length-object_bytes, items_long, object_again}
+use Rattle.sky_segment.proofs.ObjectLaws.{length-object_bytes, items_long}
 
 -- ---- sizes
 

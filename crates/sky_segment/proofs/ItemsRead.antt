@@ -4,23 +4,23 @@
 --   next_again, next_sound           one item
 --   items_more, items_again, items_sound     many items
 --   items_more, items_stop, items_refused     one more item behind those that were read, or a damage
-use Rattle.std.proofs.Common.{◌≡◌, ℕ, zero, suc, ◌+◌, ◌-◌, ◌*◌, ◌^◌, ◌<◌, ◌≤◌, Bool, true, false, cond, ltb, eqb, not, List, [], ◌∷◌, ◌++◌, length, take, drop, Result, Ok, Err, refl, sym, ap, subst, ◌∙◌, append_assoc, arith}
+use Rattle.std.proofs.Common.{◌≡◌, ℕ, zero, suc, ◌+◌, ◌^◌, ◌<◌, ◌≤◌, Bool, true, false, cond, ltb, List, [], ◌∷◌, ◌++◌, length, take, drop, Result, Ok, Err, refl, sym, ap, subst, ◌∙◌, append_assoc, arith}
 use Rattle.std.specs.List.{flat_map, AllByRecursion}
 use Rattle.std.specs.Str.{bytes_eq}
 use Rattle.std.proofs.lemmas.Bool.{ltb-false, le-ltb}
-use Rattle.std.proofs.lemmas.List.{append-nil, take_at, drop_at, take-append-drop, take-append-le, drop-append-le, length-append, length-drop, length-take}
+use Rattle.std.proofs.lemmas.List.{take_at, drop_at, take-append-drop, take-append-le, drop-append-le, length-append, length-drop}
 use Rattle.std.proofs.lemmas.Nat.{from_be_bytes-to_be_bytes_4}
 use Rattle.sky_base.specs.declared.place.Damage.{Damage}
 use Rattle.sky_base.specs.declared.place.Damage.TheVariants.{Short, Form, Digest}
 use Rattle.sky_xdr.specs.Encoding.{AreBytes, uint}
 use Rattle.sky_xdr.specs.Reading.{word, ◌>>=◌}
-use Rattle.sky_xdr.proofs.Numbers.{length-uint, AreBytes-take, AreBytes-drop}
+use Rattle.sky_xdr.proofs.Numbers.{AreBytes-take, AreBytes-drop}
 use Rattle.sky_item.specs.declared.fault.ItemFault.{ItemFault}
 use Rattle.sky_item.specs.declared.fault.ItemFault.TheVariants as fault
 use Rattle.sky_item.specs.declared.item.Item.{Item}
 use Rattle.sky_item.specs.declared.item.Item.TheVariants as kind
-use Rattle.sky_item.specs.Encoding.{kind_code, locations_of, item_header, item_bytes}
-use Rattle.sky_item.specs.Items.{IsItem, EncodesItem}
+use Rattle.sky_item.specs.Encoding.{kind_code, item_header, item_bytes}
+use Rattle.sky_item.specs.Items.{IsItem}
 use Rattle.sky_item.specs.Fields.{fields_of, said_length, stored_digest, computed_digest, verified, item_at}
 use Rattle.sky_item.proofs.ItemLaws.{item_again, item_sound}
 use Rattle.sky_item.proofs.Sizes.{length-item_bytes}

@@ -4,7 +4,7 @@
 --   object_again, object_sound, one_object
 --   gives_found, gives_given     what a call returned that gives what reading gives
 --   empty_object
-use Rattle.std.proofs.Common.{◌≡◌, ℕ, zero, suc, ◌+◌, ◌-◌, ◌*◌, ◌^◌, ◌<◌, ◌≤◌, Bool, true, false, cond, ltb, eqb, Option, Some, None, List, [], ◌∷◌, ◌++◌, length, take, drop, Result, Ok, Err, IfOk, Vec, Global, refl, sym, ap, subst, ◌∙◌, append_assoc, arith}
+use Rattle.std.proofs.Common.{◌≡◌, ℕ, ◌+◌, ◌-◌, ◌*◌, ◌^◌, ◌<◌, ◌≤◌, Bool, true, false, cond, ltb, eqb, Option, Some, None, List, [], ◌∷◌, ◌++◌, length, drop, Result, Ok, Err, IfOk, Vec, Global, refl, sym, ap, subst, ◌∙◌, append_assoc, arith}
 use Rattle.std.specs.List.{flat_map, AllByRecursion}
 use Rattle.std.proofs.lemmas.Bool.{eqb-true, ltb-false, le-ltb}
 use Rattle.std.proofs.lemmas.List.{append-nil, length-append}
@@ -21,7 +21,7 @@ use Rattle.sky_item.specs.declared.item.Item.{Item}
 use Rattle.sky_item.specs.Encoding.{item_bytes}
 use Rattle.sky_item.specs.Items.{IsItem}
 use Rattle.sky_item.proofs.Sizes.{length-item_bytes}
-use Rattle.sky_segment.specs.Objects.{object_header, object_header_bytes, object_bytes, may_stand, IsObject}
+use Rattle.sky_segment.specs.Objects.{object_header, object_header_bytes, object_bytes, IsObject}
 use Rattle.sky_segment.specs.Damages.{said_count, header_fields, first_wrong, items_at, all_of, behind_header, object_at, GivesBy}
 use Rattle.sky_segment.proofs.ItemsRead.{items_again, items_sound, many_is}
 use Rattle.sky_segment.proofs.Headers.{length-object_header, header_again, header_sound, one_header, one_count}

@@ -1,5 +1,5 @@
 -- FSSTAT, FSINFO, PATHCONF and NULL.
-use Rattle.sky_nfs.specs.Handles.{volume_in, fileid_in, handle_bytes}
+use Rattle.sky_nfs.specs.Handles.{volume_in, fileid_in}
 use Rattle.std.proofs.Common.{◌≡◌, List, [], ◌∷◌, Some, Ok, refl, true, false}
 use Rattle.sky_nfs.specs.declared.answer.Answer.{Answer}
 use Rattle.sky_nfs.specs.declared.call.Call.{Call}

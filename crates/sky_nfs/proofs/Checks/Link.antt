@@ -1,5 +1,5 @@
 -- LINK.
-use Rattle.sky_nfs.specs.Handles.{volume_in, fileid_in, handle_bytes}
+use Rattle.sky_nfs.specs.Handles.{volume_in, fileid_in}
 use Rattle.std.proofs.Common.{◌≡◌, ℕ, List, [], ◌∷◌, Some, None, Ok, Err, refl}
 use Rattle.std.specs.Prelude.{codes, ◌^◌, replicate}
 use Rattle.sky_nfs.specs.declared.answer.Answer.{Answer}

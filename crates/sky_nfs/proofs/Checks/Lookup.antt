@@ -1,5 +1,5 @@
 -- LOOKUP, ACCESS, READLINK and READ.
-use Rattle.sky_nfs.specs.Handles.{volume_in, fileid_in, handle_bytes}
+use Rattle.sky_nfs.specs.Handles.{volume_in, fileid_in}
 use Rattle.std.proofs.Common.{◌≡◌, ℕ, List, [], ◌∷◌, Some, None, Ok, Err, refl, true, false}
 use Rattle.std.specs.Prelude.{codes, ◌^◌, ◌+◌, ◌-◌, ◌++◌, replicate, map}
 use Rattle.sky_nfs.specs.declared.answer.Answer.{Answer}

@@ -1,5 +1,5 @@
 -- MKDIR, SYMLINK and MKNOD.
-use Rattle.sky_nfs.specs.Handles.{volume_in, fileid_in, handle_bytes}
+use Rattle.sky_nfs.specs.Handles.{volume_in, fileid_in}
 use Rattle.std.proofs.Common.{◌≡◌, ℕ, List, [], ◌∷◌, Some, None, Ok, refl}
 use Rattle.std.specs.Prelude.{codes, ◌^◌, replicate}
 use Rattle.sky_nfs.specs.declared.answer.Answer.{Answer}

@@ -1,5 +1,5 @@
 -- READDIR and READDIRPLUS.
-use Rattle.sky_nfs.specs.Handles.{volume_in, fileid_in, handle_bytes}
+use Rattle.sky_nfs.specs.Handles.{volume_in, fileid_in}
 use Rattle.std.proofs.Common.{◌≡◌, ℕ, List, [], ◌∷◌, Some, Ok, refl, true, false}
 use Rattle.std.specs.Prelude.{Bool, codes, ◌^◌, replicate, map}
 use Rattle.sky_nfs.specs.declared.answer.Answer.{Answer}

@@ -1,5 +1,5 @@
 -- REMOVE and RMDIR.
-use Rattle.sky_nfs.specs.Handles.{volume_in, fileid_in, handle_bytes}
+use Rattle.sky_nfs.specs.Handles.{volume_in, fileid_in}
 use Rattle.std.proofs.Common.{◌≡◌, List, [], ◌∷◌, Some, Ok, refl}
 use Rattle.std.specs.Prelude.{codes, replicate}
 use Rattle.sky_nfs.specs.declared.answer.Answer.{Answer}

@@ -1,5 +1,5 @@
 -- SETATTR.
-use Rattle.sky_nfs.specs.Handles.{volume_in, fileid_in, handle_bytes}
+use Rattle.sky_nfs.specs.Handles.{volume_in, fileid_in}
 use Rattle.std.proofs.Common.{◌≡◌, List, [], ◌∷◌, Some, None, refl}
 use Rattle.std.specs.Prelude.{codes, ◌^◌, ◌+◌}
 use Rattle.sky_nfs.specs.declared.call.Call.{Call}

@@ -1,5 +1,5 @@
 -- Valid trees, and a history.
-use Rattle.sky_nfs.specs.Handles.{volume_in, fileid_in, handle_bytes}
+use Rattle.sky_nfs.specs.Handles.{volume_in, fileid_in}
 use Rattle.std.proofs.Common.{◌≡◌, ℕ, [], ◌∷◌, refl, false}
 use Rattle.std.specs.Prelude.{codes}
 use Rattle.sky_nfs.specs.declared.call.Call.{Call}

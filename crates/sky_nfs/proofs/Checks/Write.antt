@@ -1,5 +1,5 @@
 -- WRITE and COMMIT.
-use Rattle.sky_nfs.specs.Handles.{volume_in, fileid_in, handle_bytes}
+use Rattle.sky_nfs.specs.Handles.{volume_in, fileid_in}
 use Rattle.std.proofs.Common.{◌≡◌, ℕ, List, [], ◌∷◌, None, Ok, refl, true, false}
 use Rattle.std.specs.Prelude.{codes, ◌^◌, ◌+◌, ◌-◌, length}
 use Rattle.sky_nfs.specs.declared.answer.Answer.{Answer}

@@ -1,5 +1,5 @@
-use Rattle.std.proofs.Common.{refl, ◌≡◌, ◌+◌, ◌*◌, ◌∙◌, ℕ, List, length, take, drop, ap, sym, arith}
-use Rattle.sky_item.specs.Encoding.{item_bytes, body_bytes}
+use Rattle.std.proofs.Common.{refl, arith}
+use Rattle.sky_item.specs.Encoding.{item_bytes}
 use Rattle.sky_item.proofs.Sizes.{links_few, length-item_bytes, length-body_bytes}
 use Rattle.sky_item.proofs.ItemLaws.{item_again}
 use Rattle.sky_item.proofs.bodies.write_item.Goals as goal

@@ -1,4 +1,4 @@
-use Rattle.std.proofs.Common.{◌≡◌, ◌+◌, ◌-◌, ◌*◌, ◌++◌, ◌∙◌, ℕ, List, length, take, drop, ap, sym, subst, refl, arith}
+use Rattle.std.proofs.Common.{◌≡◌, ◌+◌, ◌-◌, ◌*◌, ℕ, List, length, take, drop, subst, refl, arith}
 use borrow.Rule.Slice.PartMut.{put_mid}
 use Rattle.sky_item.specs.Encoding.{item_front, body_bytes}
 use Rattle.sky_item.proofs.Sizes.{length-item_front}

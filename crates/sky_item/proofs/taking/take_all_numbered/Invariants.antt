@@ -1,4 +1,4 @@
-use Rattle.std.proofs.Common.{◌≡◌, ℕ, ◌+◌, ◌-◌, Ok}
+use Rattle.std.proofs.Common.{◌≡◌, ◌+◌, Ok}
 use Rattle.sky_item.specs.Reading.{each_at}
 use Rattle.sky_item.specs.Fields.{numbered_at, numbers_behind}
 use Rattle.sky_item.proofs.Each.{after}

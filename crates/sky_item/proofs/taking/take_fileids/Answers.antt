@@ -1,12 +1,10 @@
-use Rattle.std.proofs.Common.{◌≡◌, ℕ, Option, Vec, Global, ◌+◌, ◌-◌, List, [], ◌∷◌, ◌++◌, Ok, Err, refl, sym, ap, subst, ◌∙◌}
+use Rattle.std.proofs.Common.{◌≡◌, ℕ, Vec, Global, ◌+◌, ◌-◌, Ok, Err, refl, sym, subst, ◌∙◌}
 use Rattle.std.proofs.lemmas.Result.{err_from_is_err_and}
-use Rattle.sky_base.specs.declared.place.Link.{Link}
-use Rattle.sky_base.specs.declared.place.Location.{Location}
 use Rattle.sky_base.specs.Limits.{max_fileid}
-use Rattle.sky_item.specs.Reading.{each_at, uhyper_within}
+use Rattle.sky_item.specs.Reading.{uhyper_within}
 use Rattle.sky_item.specs.Fields.{fileids_at}
 use Rattle.sky_item.specs.Taking.{Takes}
-use Rattle.sky_item.proofs.Each.{after, after-push, each_none, each_more, each_refused, pushed}
+use Rattle.sky_item.proofs.Each.{after-push, each_none, each_more, each_refused, pushed}
 use Rattle.sky_item.proofs.taking.take_fileids.Goals as goal
 
 pub loop-init : goal.loop-init

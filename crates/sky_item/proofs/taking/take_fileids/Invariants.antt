@@ -1,4 +1,4 @@
-use Rattle.std.proofs.Common.{◌≡◌, ℕ, ◌+◌, ◌-◌, Ok}
+use Rattle.std.proofs.Common.{◌≡◌, ◌+◌, ◌-◌, Ok}
 use Rattle.sky_base.specs.Limits.{max_fileid}
 use Rattle.sky_item.specs.Reading.{each_at, uhyper_within}
 use Rattle.sky_item.proofs.Each.{after}

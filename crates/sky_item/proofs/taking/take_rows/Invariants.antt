@@ -1,4 +1,4 @@
-use Rattle.std.proofs.Common.{◌≡◌, ℕ, ◌+◌, ◌-◌, Ok}
+use Rattle.std.proofs.Common.{◌≡◌, Ok}
 use Rattle.sky_item.specs.Reading.{each_at}
 use Rattle.sky_item.specs.Fields.{row_at}
 use Rattle.sky_item.proofs.taking.take_rows.Given as goal

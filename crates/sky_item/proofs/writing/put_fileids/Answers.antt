@@ -1,4 +1,3 @@
-use Rattle.std.proofs.Common.{arith}
 use Rattle.std.proofs.lemmas.Result.{err_from_is_err_and}
 use Rattle.sky_xdr.specs.Encoding.{uhyper}
 use Rattle.sky_item.proofs.Puts.{appends_stops}

@@ -1,5 +1,4 @@
 use Rattle.sky_item.specs.Encoding.{location_bytes}
-use Rattle.sky_item.specs.Writing.{Appends}
 use Rattle.sky_item.proofs.Puts.{appends_then, puts_then}
 use Rattle.sky_item.proofs.writing.put_location.Goals as goal
 

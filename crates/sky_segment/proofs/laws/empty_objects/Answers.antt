@@ -1,4 +1,4 @@
-use Rattle.std.proofs.Common.{◌≡◌, [], refl}
+use Rattle.std.proofs.Common.{[], refl}
 use Rattle.sky_xdr.specs.Encoding.{uint, uhyper}
 use Rattle.sky_segment.specs.Objects.{object_header, object_bytes}
 use Rattle.sky_segment.proofs.ObjectLaws.{empty_object, length-object_bytes}

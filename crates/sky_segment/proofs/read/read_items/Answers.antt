@@ -1,10 +1,9 @@
-use Rattle.std.proofs.Common.{◌≡◌, ℕ, ◌-◌, Vec, Global, List, Bor, Result, Ok, Err, length, take, drop, refl, sym, ap, ◌∙◌, arith}
+use Rattle.std.proofs.Common.{◌≡◌, ℕ, ◌-◌, Vec, Global, List, Bor, Err, length, take, drop, sym, ap, ◌∙◌}
 use Rattle.std.proofs.lemmas.List.{take_rest}
 use Rattle.std.proofs.lemmas.Result.{err_from_is_err_and}
-use Rattle.sky_base.specs.declared.place.Damage.{Damage}
 use Rattle.sky_base.specs.declared.place.Damage.TheVariants.{Form}
 use Rattle.sky_item.specs.declared.item.Item.{Item}
-use Rattle.sky_segment.specs.Damages.{items_at, said_count, GivesBy}
+use Rattle.sky_segment.specs.Damages.{items_at, said_count}
 use Rattle.sky_segment.proofs.ObjectLaws.{behind_refused, all_read, some_left}
 use Rattle.sky_segment.proofs.read.read_items.Goals as goal
 

@@ -1,7 +1,6 @@
-use Rattle.std.proofs.Common.{◌≡◌, ◌≤◌, ℕ, Vec, Global, Bor, ◌+◌, List, [], ◌∷◌, ◌++◌, Ok, Err, length, arith}
+use Rattle.std.proofs.Common.{◌≤◌, ℕ, Vec, Global, Bor, List, length, arith}
 use Rattle.std.proofs.lemmas.Result.{err_from_is_err_and}
 use Rattle.sky_item.specs.declared.item.Item.{Item}
-use Rattle.sky_segment.specs.Damages.{items_at}
 use Rattle.sky_segment.proofs.ItemsRead.{items-zero, items_more, items_refused, next_shorter}
 use Rattle.sky_segment.proofs.read.take_items.Goals as goal
 

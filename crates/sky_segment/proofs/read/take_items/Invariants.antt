@@ -1,4 +1,4 @@
-use Rattle.std.proofs.Common.{◌≡◌, ◌≤◌, ℕ, length, Ok}
+use Rattle.std.proofs.Common.{◌≡◌, ◌≤◌, length, Ok}
 use Rattle.sky_base.specs.Limits.{max_object_bytes}
 use Rattle.sky_segment.specs.Damages.{items_at}
 use Rattle.sky_segment.proofs.read.take_items.Given as goal

@@ -1,4 +1,4 @@
-use Rattle.std.proofs.Common.{◌≡◌, ℕ, List, ◌++◌, take, drop, sym, ap, append_assoc, ◌∙◌}
+use Rattle.std.proofs.Common.{ℕ, List, ◌++◌, take, drop, sym, ap, append_assoc, ◌∙◌}
 use Rattle.std.proofs.lemmas.List.{drop-drop}
 use Rattle.sky_xdr.specs.Encoding.{uint}
 use Rattle.sky_segment.proofs.writing.write_count.Goals as goal

@@ -1,4 +1,4 @@
-use Rattle.std.proofs.Common.{◌≡◌, ◌+◌, ◌∙◌, ℕ, length, drop, sym, ap, refl, arith}
+use Rattle.std.proofs.Common.{length, refl, arith}
 use Rattle.sky_xdr.proofs.Puts.{take-put, drop-put}
 use Rattle.sky_item.proofs.output.Output.put.Goals as goal
 

@@ -1,9 +1,9 @@
 use Rattle.std.proofs.Common.{[], refl}
-use Rattle.sky_memory.specs.declared.record.Step.TheVariants.{Put, Remove}
+use Rattle.sky_memory.specs.declared.record.Step.TheVariants.{Remove}
 use Rattle.sky_memory.specs.Objects.{map_of}
 use Rattle.sky_memory.specs.Past.{at_first}
 use Rattle.sky_memory.specs.Kept.{first_of}
-use Rattle.sky_memory.proofs.SiteLaws.{image_kept, put_kept, removed_kept}
+use Rattle.sky_memory.proofs.SiteLaws.{image_kept, removed_kept}
 use Rattle.sky_memory.proofs.mem_site.MemSite.discard.Goals as goal
 
 pub invariant_of-self : goal.invariant_of-self

@@ -1,7 +1,6 @@
-use Rattle.std.proofs.Common.{◌≡◌, ◌≤◌, ℕ, length, take, Some, slice_get, ap, ◌∙◌, subst, arith}
+use Rattle.std.proofs.Common.{◌≡◌, ◌≤◌, length, take, Some, slice_get, ap, ◌∙◌, subst, arith}
 use Rattle.sky_memory.specs.MemSite.{MemSiteState}
-use Rattle.sky_memory.specs.Past.{Call, at_first, after_calls, stopped_at}
-use Rattle.sky_memory.specs.Replay.{IsAt, IsStoppedAt}
+use Rattle.sky_memory.specs.Past.{Call, at_first, after_calls}
 use Rattle.sky_memory.proofs.StopLaws.{left_beyond, left_within, IfOk-map}
 use Rattle.sky_memory.proofs.mem_site.MemSite.left_by.Goals as goal
 

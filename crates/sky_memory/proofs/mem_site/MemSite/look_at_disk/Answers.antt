@@ -1,8 +1,8 @@
 use Rattle.std.proofs.Common.{[], refl}
-use Rattle.sky_memory.specs.declared.record.Step.TheVariants.{Look, Write, Sync, Put, Remove}
+use Rattle.sky_memory.specs.declared.record.Step.TheVariants.{Look}
 use Rattle.sky_memory.specs.Past.{at_first}
 use Rattle.sky_memory.specs.Kept.{first_of}
-use Rattle.sky_memory.proofs.SiteLaws.{image_kept, objects_kept, written_kept, put_kept, removed_kept}
+use Rattle.sky_memory.proofs.SiteLaws.{image_kept, objects_kept}
 use Rattle.sky_memory.proofs.mem_site.MemSite.look_at_disk.Goals as goal
 
 pub invariant_of-self : goal.invariant_of-self

@@ -1,5 +1,5 @@
 use Rattle.std.proofs.Common.{take, sym, subst}
-use Rattle.sky_memory.specs.Past.{SiteAt, at_first, after_calls}
+use Rattle.sky_memory.specs.Past.{at_first, after_calls}
 use Rattle.sky_memory.specs.Kept.{first_of}
 use Rattle.sky_memory.specs.Replay.{IsAt}
 use Rattle.sky_memory.proofs.StopLaws.{next_call}

@@ -1,4 +1,4 @@
-use Rattle.std.proofs.Common.{◌≡◌, ◌≤◌, ℕ, drop, length}
+use Rattle.std.proofs.Common.{◌≡◌, ◌≤◌, drop, length}
 use Rattle.sky_memory.specs.Objects.{map_of, pairs_of}
 use Rattle.sky_memory.proofs.objects.Objects.of.Given as goal
 

@@ -1,9 +1,7 @@
-use Rattle.std.proofs.Common.{◌≡◌, ◌≤◌, ◌+◌, ◌∷◌, ◌++◌, length, List, ℕ, ap, sym, subst, ◌∙◌, arith}
+use Rattle.std.proofs.Common.{◌∷◌, ◌++◌, sym, subst, arith}
 use Rattle.sky_base.specs.declared.place.Location.{Location}
-use Rattle.sky_item.specs.Encoding.{item_bytes}
 use Rattle.sky_item.specs.Items.{IsLocation}
 use Rattle.sky_segment.specs.Objects.{object_bytes, LiesAt}
-use Rattle.sky_segment.specs.Drafts.{size_of_draft, next_place}
 use Rattle.sky_segment.proofs.DraftLaws.{kept_size, kept_few, room_left, kept_more, place_is, there_is_location, lies_there}
 use Rattle.sky_segment.proofs.builder.Builder.add.Goals as goal
 

@@ -1,5 +1,4 @@
-use Rattle.std.proofs.Common.{◌≡◌, ◌≤◌, length, List, ℕ, Ok, ap, sym, ◌∙◌, arith}
-use Rattle.sky_segment.specs.Drafts.{size_of_draft}
+use Rattle.std.proofs.Common.{◌∙◌, arith}
 use Rattle.sky_segment.proofs.ObjectLaws.{object_again, length-object_bytes}
 use Rattle.sky_segment.proofs.DraftLaws.{kept_size, kept_done}
 use Rattle.sky_segment.proofs.builder.Builder.finish.Goals as goal
