@@ -1,6 +1,6 @@
 //! What happens to a world, as the frames of a recording.
 
-use crate::words::bytes_of;
+use crate::words::{bytes_of, numbers_of};
 use std::alloc::Global;
 
 /// The kinds of frames that go in.
@@ -73,6 +73,53 @@ fn put_piece(recording: &mut Vec<u8>, sessions: &str, piece: &[u8]) -> Option<()
     Some(())
 }
 
+/// Puts numbers of four bytes each.
+fn put_numbers(record: &mut Vec<u8>, numbers: &[u32]) -> Option<()> {
+    for number in numbers {
+        record.extend_from_slice(&number.to_be_bytes()).ok()?;
+    }
+    Some(())
+}
+
+/// Puts who calls, as AUTH_SYS has it: of the machine nothing, a user, a group and further groups.
+fn put_caller(record: &mut Vec<u8>, user: u32, group: u32, groups: &[u64]) -> Option<()> {
+    let count = u32::try_from(groups.len()).ok()?;
+    let length = count.checked_mul(4)?.checked_add(20)?;
+    put_numbers(record, &[1, length, 0, 0, user, group, count])?;
+    for group in groups {
+        put_numbers(record, &[u32::try_from(*group).ok()?])?;
+    }
+    put_numbers(record, &[0, 0])
+}
+
+/// Puts a call of version 3 of NFS: `USER:GROUP:GROUPS:PROCEDURE:ARGUMENTS`.
+fn put_nfs_call(alloc: Global, record: &mut Vec<u8>, rest: &str) -> Option<()> {
+    let (user, rest) = rest.split_once(':')?;
+    let (group, rest) = rest.split_once(':')?;
+    let (groups, rest) = rest.split_once(':')?;
+    let (procedure, arguments) = rest.split_once(':')?;
+    put_numbers(
+        record,
+        &[1, 0, 2, 100003, 3, procedure.parse::<u32>().ok()?],
+    )?;
+    let user = user.parse::<u32>().ok()?;
+    let group = group.parse::<u32>().ok()?;
+    let groups = numbers_of(alloc, groups)?;
+    put_caller(record, user, group, &groups)?;
+    record.extend_from_slice(&bytes_of(alloc, arguments)?).ok()
+}
+
+/// Puts a call as one record in one frame: `SESSION:USER:GROUP:GROUPS:PROCEDURE:ARGUMENTS`.
+fn put_call(alloc: Global, recording: &mut Vec<u8>, rest: &str) -> Option<()> {
+    let (session, rest) = rest.split_once(':')?;
+    let mut call = Vec::new(alloc);
+    put_nfs_call(alloc, &mut call, rest)?;
+    let mark = u32::try_from(call.len()).ok()? | 1 << 31;
+    let mut record = mark.to_be_bytes().to_vec(alloc).ok()?;
+    record.extend_from_slice(&call).ok()?;
+    put_frame(recording, BYTES, session.parse::<u32>().ok()?, &record)
+}
+
 /// Puts bytes into the recording as they are.
 fn put_raw(alloc: Global, recording: &mut Vec<u8>, rest: &str) -> Option<()> {
     let bytes = bytes_of(alloc, rest)?;
@@ -87,6 +134,7 @@ pub fn put(alloc: Global, recording: &mut Vec<u8>, word: &str) -> Option<()> {
         Some(("bytes", rest)) => put_bytes(alloc, recording, rest),
         Some(("pieces", rest)) => put_pieces(alloc, recording, rest),
         Some(("moment", rest)) => put_moment(recording, rest),
+        Some(("call", rest)) => put_call(alloc, recording, rest),
         Some(("raw", rest)) => put_raw(alloc, recording, rest),
         Some(_) => None,
         None => put_plain(recording, word),

@@ -9,57 +9,68 @@ ghost use Rattle.sky_world.specs.Meaning.{IsStep};
 
 use crate::ending::{Cause, Ending};
 use crate::setup::Setup;
-use sky_memory::{MemSink, MemSource};
+use sky_memory::{MemSink, MemSite, MemSource};
 use sky_outside::{Site, Storage};
 use sky_script::{Frame, FrameBuf, read_frame};
 use sky_settings::Settings;
 use sky_world::World;
 use std::alloc::Global;
 
-/// Plays a recording as a row says. Gives the bytes that were written, and how it ended. Nothing, where there is no memory or the settings are
-/// out of their ranges.
-pub fn played(alloc: Global, setup: &Setup, recording: Vec<u8>) -> Option<(Vec<u8>, Ending)> {
-    let settings = setup.settings()?;
+/// What a row came to.
+#[derive(Drop)]
+pub struct Played {
+    /// The bytes that were written.
+    pub written: Vec<u8>,
+    /// How it ended.
+    pub ending: Ending,
+    /// The site as it was left, where it is one that can be looked at.
+    pub left: Option<MemSite>,
+}
+
+/// Plays a recording as a row says. Nothing, where there is no memory or the settings are out of their ranges.
+pub fn played(alloc: Global, setup: &Setup, recording: Vec<u8>) -> Option<Played> {
     let mut source = setup.source(alloc, recording).ok()?;
     let mut sink = setup.sink(alloc).ok()?;
-    let ending = if setup.is_sure() {
-        play_surely(alloc, setup, settings, &mut source, &mut sink)?
+    let (ending, left) = if setup.is_sure() {
+        (play_surely(alloc, setup, &mut source, &mut sink)?, None)
     } else {
-        play_with_stop(alloc, setup, settings, &mut source, &mut sink)?
+        play_and_look(alloc, setup, &mut source, &mut sink)?
     };
     let written = sink.bytes().to_vec(alloc).ok()?;
-    Some((written, ending))
+    Some(Played {
+        written,
+        ending,
+        left,
+    })
 }
 
 /// Plays over a site that never fails.
 fn play_surely(
     alloc: Global,
     setup: &Setup,
-    settings: Settings,
     source: &mut MemSource,
     sink: &mut MemSink,
 ) -> Option<Ending> {
+    let settings = setup.settings()?;
     let mut site = setup.sure_site(alloc).ok()?;
     play(alloc, settings, &mut site, source, sink)
 }
 
-/// Plays over a site whose calls may fail, and opens what a stop leaves of it, where the row says so.
-fn play_with_stop(
+/// Plays over a site whose calls may fail, and opens what a stop leaves of it, where the row says so. Gives the site as it is then.
+fn play_and_look(
     alloc: Global,
     setup: &Setup,
-    settings: Settings,
     source: &mut MemSource,
     sink: &mut MemSink,
-) -> Option<Ending> {
-    let mut site = setup.site(alloc).ok()?;
-    let ending = play(alloc, settings, &mut site, source, sink)?;
-    match setup.stop {
-        None => Some(ending),
-        Some((call, part)) => {
-            let mut left = site.stopped(call, part).ok()?;
-            play(alloc, settings, &mut left, source, sink)
-        }
+) -> Option<(Ending, Option<MemSite>)> {
+    let settings = setup.settings()?;
+    let mut site = setup.site(alloc)?;
+    let mut ending = play(alloc, settings, &mut site, source, sink)?;
+    if let Some((call, part)) = setup.stop {
+        site = site.stopped(call, part).ok()?;
+        ending = play(alloc, settings, &mut site, source, sink)?;
     }
+    Some((ending, Some(site)))
 }
 
 /// Opens a site and does the frames of a recording.

@@ -1,10 +1,12 @@
 //! What a world is opened over.
 
-ghost use Rattle.std.specs.Prelude.{IfOk};
+ghost use Rattle.std.specs.Prelude.{All, IfOk, IfSome};
+ghost use Rattle.sky_base.specs.NameText.{IsNumbered};
+ghost use Rattle.sky_memory.specs.Objects.{IsInRange};
 ghost use Rattle.sky_outside.specs.Moments.{NothingPending};
 
-use crate::words::numbers_of;
-use sky_base::NoMemory;
+use crate::words::{bytes_of, numbers_of};
+use sky_base::{NoMemory, SegName};
 use sky_memory::{Fail, MemSink, MemSite, MemSource, SureSite};
 use sky_outside::Storage;
 use sky_settings::{Fields, Settings};
@@ -32,6 +34,14 @@ pub struct Setup {
     site_fails: Vec<Fail>,
     /// The call of the site, and what of it, that a stop comes in: `CALL:PART`.
     pub stop: Option<(u64, u8)>,
+    /// What the disk has at first: `PLACE:BYTES`.
+    disk: Vec<String>,
+    /// The objects that the cloud has at first: `NAME:BYTES`.
+    objects: Vec<String>,
+    /// The bytes of the disk that are shown behind the frames: `PLACE:LENGTH`.
+    pub image: Option<(usize, usize)>,
+    /// The objects that are shown then.
+    pub shown: Vec<String>,
 }
 
 impl Setup {
@@ -48,6 +58,10 @@ impl Setup {
             sink_fails: Vec::new(alloc),
             site_fails: Vec::new(alloc),
             stop: None,
+            disk: Vec::new(alloc),
+            objects: Vec::new(alloc),
+            image: None,
+            shown: Vec::new(alloc),
         }
     }
 
@@ -62,6 +76,10 @@ impl Setup {
             "sink_fails" => self.sink_fails = numbers_of(alloc, value)?,
             "site_fails" => self.site_fails = fails_of(alloc, value)?,
             "stop" => self.stop = Some(stop_of(value)?),
+            "image" => self.image = Some(range_of(value)?),
+            "disk" => keep(alloc, &mut self.disk, value)?,
+            "object" => keep(alloc, &mut self.objects, value)?,
+            "objects" => keep(alloc, &mut self.shown, value)?,
             _ => return None,
         }
         Some(())
@@ -72,9 +90,12 @@ impl Setup {
         Settings::of(self.fields)
     }
 
-    /// Whether the site is one that never fails and keeps no record of its calls.
+    /// Whether the site is one that never fails, keeps no record of its calls and is blank at first.
     pub fn is_sure(&self) -> bool {
-        self.site_fails.is_empty() && self.stop.is_none()
+        let fails = !self.site_fails.is_empty() || self.stop.is_some();
+        let begins = !self.disk.is_empty() || !self.objects.is_empty();
+        let shows = self.image.is_some() || !self.shown.is_empty();
+        !fails && !begins && !shows
     }
 
     /// A blank site that never fails.
@@ -84,12 +105,14 @@ impl Setup {
         SureSite::new(alloc, self.size)
     }
 
-    /// A blank site whose calls fail where the row says so.
-    pub fn site(&self, alloc: Global) -> Result<MemSite, NoMemory>
-        ensures { IfOk result (λ site. NothingPending ⟦<MemSite as Storage>⟧ site) }
+    /// A site whose calls fail where the row says so. Nothing, where there is no memory, or the row says what no disk or cloud has.
+    pub fn site(&self, alloc: Global) -> Option<MemSite>
+        ensures { IfSome result (λ site. NothingPending ⟦<MemSite as Storage>⟧ site) }
     {
-        let fails = self.site_fails.to_vec(alloc)?;
-        MemSite::new(alloc, self.size, Vec::new(alloc), CALLS, CALL_BYTES, fails)
+        let image = image_of(alloc, self.size, &self.disk)?;
+        let held = objects_of(alloc, &self.objects)?;
+        let fails = self.site_fails.to_vec(alloc).ok()?;
+        MemSite::over(alloc, image, held, CALLS, CALL_BYTES, fails).ok()
     }
 
     /// The sink.
@@ -126,4 +149,62 @@ fn fail_of(word: &str) -> Option<Fail> {
 fn stop_of(word: &str) -> Option<(u64, u8)> {
     let (call, part) = word.split_once(':')?;
     Some((call.parse::<u64>().ok()?, part.parse::<u8>().ok()?))
+}
+
+/// A place and a length: `PLACE:LENGTH`.
+fn range_of(word: &str) -> Option<(usize, usize)> {
+    let (at, length) = word.split_once(':')?;
+    Some((at.parse::<usize>().ok()?, length.parse::<usize>().ok()?))
+}
+
+/// Keeps a word behind the others.
+fn keep(alloc: Global, words: &mut Vec<String>, word: &str) -> Option<()> {
+    words.push(String::from_str(alloc, word).ok()?).ok()
+}
+
+/// Writes what a word says into a disk: `PLACE:BYTES`.
+fn write(alloc: Global, image: &mut [u8], word: &str) -> Option<()> {
+    let (at, bytes) = word.split_once(':')?;
+    let at = at.parse::<usize>().ok()?;
+    let bytes = bytes_of(alloc, bytes)?;
+    image
+        .get_mut(at..)?
+        .get_mut(..bytes.len())?
+        .copy_from_slice(&bytes);
+    Some(())
+}
+
+/// A disk of this many bytes, zero where no word says what it has.
+fn image_of(alloc: Global, size: u64, words: &[String]) -> Option<Vec<u8>> {
+    let mut image = vec![in alloc; 0u8; usize::try_from(size).ok()?].ok()?;
+    for word in words {
+        write(alloc, &mut image, word.as_str())?;
+    }
+    Some(image)
+}
+
+/// The name that a word is.
+pub fn name_of(word: &str) -> Option<SegName>
+    ensures { IfSome result IsNumbered }
+{
+    SegName::from_text(word.as_bytes()).ok()
+}
+
+/// An object: `NAME:BYTES`.
+fn object_of(alloc: Global, word: &str) -> Option<(SegName, Vec<u8>)>
+    ensures { IfSome result (λ o. IsInRange o.0) }
+{
+    let (name, bytes) = word.split_once(':')?;
+    Some((name_of(name)?, bytes_of(alloc, bytes)?))
+}
+
+/// The objects of a cloud.
+fn objects_of(alloc: Global, words: &[String]) -> Option<Vec<(SegName, Vec<u8>)>>
+    ensures { IfSome result (λ held. All (λ o. IsInRange o.0) held.items) }
+{
+    let mut held = Vec::new(alloc);
+    for word in words {
+        held.push(object_of(alloc, word.as_str())?).ok()?;
+    }
+    Some(held)
 }

@@ -1,5 +1,7 @@
 //! The frames that a world answers, as text.
 
+use crate::setup::{Setup, name_of};
+use sky_memory::MemSite;
 use std::alloc::Global;
 use std::io;
 
@@ -104,4 +106,45 @@ pub fn print_frames(rt: &impl Print, alloc: Global, name: &str, written: &[u8]) 
     }
     let text = hex_of(alloc, left)?;
     println!(rt; "{name} cut {text}")
+}
+
+/// Prints what a row shows of the site that it left: bytes of the disk, and objects.
+pub fn print_site(
+    rt: &impl Print,
+    alloc: Global,
+    name: &str,
+    setup: &Setup,
+    site: &MemSite,
+) -> io::Result<()> {
+    if let Some((at, length)) = setup.image {
+        let text = hex_of(alloc, part_of(site.image(), at, length))?;
+        println!(rt; "{name} image {at} {text}")?;
+    }
+    for object in &setup.shown {
+        print_object(rt, alloc, name, object.as_str(), site)?;
+    }
+    Ok(())
+}
+
+/// This many bytes from a place on, or those that are there.
+fn part_of(bytes: &[u8], at: usize, length: usize) -> &[u8] {
+    let rest = bytes.get(at..).unwrap_or(&[]);
+    rest.get(..length).unwrap_or(rest)
+}
+
+/// Prints the bytes of an object.
+fn print_object(
+    rt: &impl Print,
+    alloc: Global,
+    name: &str,
+    object: &str,
+    site: &MemSite,
+) -> io::Result<()> {
+    match name_of(object).and_then(|name| site.held(name)) {
+        Some(bytes) => {
+            let text = hex_of(alloc, bytes)?;
+            println!(rt; "{name} object {object} {text}")
+        }
+        None => println!(rt; "{name} object {object} none"),
+    }
 }

@@ -27,9 +27,12 @@ fn put_piece(alloc: Global, bytes: &mut Vec<u8>, piece: &str) -> Option<()> {
     Some(())
 }
 
-/// The numbers of a list such as `3,5`.
+/// The numbers of a list such as `3,5`, or `-` for none.
 pub fn numbers_of(alloc: Global, word: &str) -> Option<Vec<u64>> {
     let mut numbers = Vec::new(alloc);
+    if word == "-" {
+        return Some(numbers);
+    }
     for number in word.split(',') {
         numbers.push(number.parse::<u64>().ok()?).ok()?;
     }

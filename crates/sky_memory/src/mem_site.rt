@@ -94,10 +94,34 @@ impl MemSite {
         })
     }
 
-    /// A blank disk of this many bytes, each of them zero, and a cloud with these objects, of which the
-    /// first is held where several have one name. Their names' numbers are in their range. There is room
-    /// for so many calls, and for so many bytes that they write and put; a call beyond that fails, as do
-    /// the calls that are listed.
+    /// A disk of these bytes and a cloud with these objects, of which the first is held where several have
+    /// one name. Their names' numbers are in their range. There is room for so many calls, and for so many
+    /// bytes that they write and put; a call beyond that fails, as do the calls that are listed.
+    ///
+    /// `NoMemory`: there was no memory for a copy of the disk, the objects or the record.
+    pub fn over(
+        alloc: Global,
+        image: Vec<u8>,
+        held: Vec<(SegName, Vec<u8>)>,
+        calls: usize,
+        room: usize,
+        fail: Vec<Fail>,
+    ) -> Result<MemSite, NoMemory>
+        requires { All (λ o. IsInRange o.0) held.items }
+        ensures image { IfOk result (λ site. ⟦<MemSite as Storage>⟧.image site ≡ Some image.items) }
+        ensures objects { IfOk result (λ site. ⟦<MemSite as Storage>⟧.objects site ≡ Some (map_of (pairs_of held.items))) }
+        ensures durable { IfOk result (λ site. NothingPending ⟦<MemSite as Storage>⟧ site) }
+        ensures tells { IfOk result (λ site. TellsCrashes ⟦<MemSite as Storage>⟧ site) }
+        ensures size { IfOk result (λ site. ⟦<MemSite as Storage>⟧.bytes_of site ≡ length image.items) }
+        ensures disk_faults { IfOk result (λ site. ⟦<MemSite as Storage>⟧.disk_faults site ≡ 0) }
+        ensures cloud_faults { IfOk result (λ site. ⟦<MemSite as Storage>⟧.cloud_faults site ≡ 0) }
+        ensures noted { IfOk result (λ site. site.noted ≡ record { calls = []; most = calls; used = 0; room = room }) }
+        ensures fail { IfOk result (λ site. site.fail ≡ fail.items) }
+    {
+        MemSite::fresh(alloc, image, held, calls, room, fail)
+    }
+
+    /// The same over a blank disk of this many bytes, each of them zero.
     ///
     /// `NoMemory`: there was no memory for the disk, the objects or the record.
     pub fn new(
@@ -120,7 +144,7 @@ impl MemSite {
         ensures fail { IfOk result (λ site. site.fail ≡ fail.items) }
     {
         let image = vec![in alloc; 0; size as usize]?;
-        MemSite::fresh(alloc, image, held, calls, room, fail)
+        MemSite::over(alloc, image, held, calls, room, fail)
     }
 
     // The site after so many of its calls.
