@@ -10,7 +10,7 @@ mod setup;
 mod show;
 mod words;
 
-use play::Played;
+use play::Outcome;
 use setup::Setup;
 use std::alloc::Global;
 use std::io;
@@ -71,7 +71,7 @@ impl Rows {
         rt: &impl Print,
         alloc: Global,
         name: &str,
-        played: &Played,
+        played: &Outcome,
     ) -> io::Result<()> {
         let behind = played.written.get(self.printed..).unwrap_or(&[]);
         show::print_frames(rt, alloc, name, behind)?;

@@ -18,7 +18,7 @@ use std::alloc::Global;
 
 /// What a row came to.
 #[derive(Drop)]
-pub struct Played {
+pub struct Outcome {
     /// The bytes that were written.
     pub written: Vec<u8>,
     /// How it ended.
@@ -28,7 +28,7 @@ pub struct Played {
 }
 
 /// Plays a recording as a row says. Nothing, where there is no memory or the settings are out of their ranges.
-pub fn played(alloc: Global, setup: &Setup, recording: Vec<u8>) -> Option<Played> {
+pub fn played(alloc: Global, setup: &Setup, recording: Vec<u8>) -> Option<Outcome> {
     let mut source = setup.source(alloc, recording).ok()?;
     let mut sink = setup.sink(alloc).ok()?;
     let (ending, left) = if setup.is_sure() {
@@ -37,7 +37,7 @@ pub fn played(alloc: Global, setup: &Setup, recording: Vec<u8>) -> Option<Played
         play_and_look(alloc, setup, &mut source, &mut sink)?
     };
     let written = sink.bytes().to_vec(alloc).ok()?;
-    Some(Played {
+    Some(Outcome {
         written,
         ending,
         left,
