@@ -8,7 +8,7 @@ use sky_outside::{Cloud, Disk, Failed, GetFault, Held, PutFault, Site, Storage};
 use std::alloc::Global;
 
 /// The name of the object of this number.
-fn name(seq: u8) -> SegName
+pub fn name(seq: u8) -> SegName
     ensures run { result.run < max_number }
     ensures seq { result.seq < max_number }
 {
@@ -28,7 +28,7 @@ fn is_within<S: Site>(site: &S, at: u64, length: u64) -> bool
 }
 
 /// A text of its own.
-fn text(alloc: Global, words: &str) -> Option<String> {
+pub fn text(alloc: Global, words: &str) -> Option<String> {
     String::from_str(alloc, words).ok()
 }
 

@@ -1,13 +1,16 @@
-//! Rows for the real devices: sites over a file and a folder, and readers and writers as a source and a sink. A row is a line of standard
-//! input: its name, what is asked, and of what. What the call answered is printed. The sites `a` and `b` last from row to row.
+//! Rows for the devices: sites over a file and a folder, readers and writers as a source and a sink, and those in memory. A row is a line of
+//! standard input: its name, what is asked, and of what. What the call answered is printed. The sites last from row to row: `a` and `b` over
+//! files, `m` in memory with a record of its calls, and `s` in memory and never failing.
 #![tactic(auto)]
 
 mod asks;
 mod files;
+mod memory;
 mod streams;
 
 use asks::ask;
 use sky_base::{Paths, Text};
+use sky_memory::{MemSite, SureSite};
 use sky_real::FileSite;
 use std::alloc::{AllocError, Global};
 use std::io;
@@ -17,6 +20,8 @@ use std::io;
 struct Sites {
     a: Option<FileSite>,
     b: Option<FileSite>,
+    memory: Option<MemSite>,
+    sure: Option<SureSite>,
 }
 
 /// A path of a row: `-` for none, `empty` for one without a letter.
@@ -62,6 +67,38 @@ fn ask_place(
     }
 }
 
+/// Opens the site in memory, asks it, or shows what it has or what a stop leaves.
+fn ask_memory(
+    alloc: Global,
+    place: &mut Option<MemSite>,
+    what: &str,
+    words: &str,
+) -> Option<String> {
+    match what {
+        "open" => {
+            *place = Some(memory::open(alloc, words)?);
+            asks::size(alloc, place.as_ref()?)
+        }
+        "state" => memory::state(alloc, place.as_ref()?),
+        "stopped" => memory::stopped(alloc, place.as_ref()?, words),
+        _ => ask(alloc, place.as_mut()?, what, words),
+    }
+}
+
+/// Opens the site that never fails, or asks it.
+fn ask_sure(
+    alloc: Global,
+    place: &mut Option<SureSite>,
+    what: &str,
+    words: &str,
+) -> Option<String> {
+    if what == "open" {
+        *place = Some(SureSite::new(alloc, words.parse::<u64>().ok()?).ok()?);
+        return asks::size(alloc, place.as_ref()?);
+    }
+    ask(alloc, place.as_mut()?, what, words)
+}
+
 /// Asks one of the sites.
 fn ask_site(rt: &HostRuntime, sites: &mut Sites, what: &str, words: &str) -> Option<String> {
     let (letter, rest) = match words.split_once(' ') {
@@ -71,6 +108,8 @@ fn ask_site(rt: &HostRuntime, sites: &mut Sites, what: &str, words: &str) -> Opt
     match letter {
         "a" => ask_place(rt, &mut sites.a, what, rest),
         "b" => ask_place(rt, &mut sites.b, what, rest),
+        "m" => ask_memory(rt.alloc(), &mut sites.memory, what, rest),
+        "s" => ask_sure(rt.alloc(), &mut sites.sure, what, rest),
         _ => None,
     }
 }
@@ -80,8 +119,8 @@ fn answer(rt: &HostRuntime, sites: &mut Sites, row: &str) -> Option<String> {
     let (what, words) = row.split_once(' ')?;
     match what {
         "folder" | "file" | "show" | "there" | "length" | "clear" => files::done(rt, what, words),
-        "source" => streams::pulled(rt.alloc(), words),
-        "sink" => streams::pushed(rt.alloc(), words),
+        "source" | "sure-source" | "memory-source" => streams::pulled(rt.alloc(), what, words),
+        "sink" | "sure-sink" | "memory-sink" => streams::pushed(rt.alloc(), what, words),
         _ => ask_site(rt, sites, what, words),
     }
 }
@@ -102,7 +141,12 @@ fn do_line(rt: &HostRuntime, sites: &mut Sites, line: &str) -> io::Result<()> {
 }
 
 fn main(rt: HostRuntime) -> io::Result<()> {
-    let mut sites = Sites { a: None, b: None };
+    let mut sites = Sites {
+        a: None,
+        b: None,
+        memory: None,
+        sure: None,
+    };
     for line in rt.lines(rt.alloc()) {
         do_line(&rt, &mut sites, line?.as_str())?;
     }
