@@ -109,15 +109,60 @@ fn put_nfs_call(alloc: Global, record: &mut Vec<u8>, rest: &str) -> Option<()> {
     record.extend_from_slice(&bytes_of(alloc, arguments)?).ok()
 }
 
-/// Puts a call as one record in one frame: `SESSION:USER:GROUP:GROUPS:PROCEDURE:ARGUMENTS`.
-fn put_call(alloc: Global, recording: &mut Vec<u8>, rest: &str) -> Option<()> {
-    let (session, rest) = rest.split_once(':')?;
-    let mut call = Vec::new(alloc);
-    put_nfs_call(alloc, &mut call, rest)?;
+/// Puts a call as one record in one frame.
+fn put_record(alloc: Global, recording: &mut Vec<u8>, session: u32, call: &[u8]) -> Option<()> {
     let mark = u32::try_from(call.len()).ok()? | 1 << 31;
     let mut record = mark.to_be_bytes().to_vec(alloc).ok()?;
-    record.extend_from_slice(&call).ok()?;
-    put_frame(recording, BYTES, session.parse::<u32>().ok()?, &record)
+    record.extend_from_slice(call).ok()?;
+    put_frame(recording, BYTES, session, &record)
+}
+
+/// Puts a call of a session: `SESSION:USER:GROUP:GROUPS:PROCEDURE:ARGUMENTS`.
+fn put_call(alloc: Global, recording: &mut Vec<u8>, rest: &str) -> Option<()> {
+    let (session, rest) = rest.split_once(':')?;
+    let session = session.parse::<u32>().ok()?;
+    let mut call = Vec::new(alloc);
+    put_nfs_call(alloc, &mut call, rest)?;
+    put_record(alloc, recording, session, &call)
+}
+
+/// Puts a call that links a file under a name of this length, which begins with five digits of a number.
+fn put_link(
+    alloc: Global,
+    recording: &mut Vec<u8>,
+    handles: &[u8],
+    number: u32,
+    length: u32,
+) -> Option<()> {
+    let mut call = Vec::new(alloc);
+    put_numbers(&mut call, &[1, 0, 2, 100003, 3, 15])?;
+    put_caller(&mut call, 0, 0, &[])?;
+    call.extend_from_slice(handles).ok()?;
+    put_numbers(&mut call, &[length])?;
+    for scale in [10000, 1000, 100, 10, 1] {
+        call.push(b'0' + (number / scale % 10) as u8).ok()?;
+    }
+    for _ in 5..length {
+        call.push(b'n').ok()?;
+    }
+    for _ in 0..length.wrapping_neg() % 4 {
+        call.push(0).ok()?;
+    }
+    put_record(alloc, recording, 0, &call)
+}
+
+/// Puts calls of session 0 that give a file names with the numbers from 0 on: `HANDLES:COUNT:LENGTH`, with the handles of the file and of the
+/// directory as LINK has them.
+fn put_links(alloc: Global, recording: &mut Vec<u8>, rest: &str) -> Option<()> {
+    let (handles, rest) = rest.split_once(':')?;
+    let (count, length) = rest.split_once(':')?;
+    let count = count.parse::<u32>().ok()?;
+    let length = length.parse::<u32>().ok()?;
+    let handles = bytes_of(alloc, handles)?;
+    for number in 0..count {
+        put_link(alloc, recording, &handles, number, length)?;
+    }
+    Some(())
 }
 
 /// Puts bytes into the recording as they are.
@@ -135,6 +180,7 @@ pub fn put(alloc: Global, recording: &mut Vec<u8>, word: &str) -> Option<()> {
         Some(("pieces", rest)) => put_pieces(alloc, recording, rest),
         Some(("moment", rest)) => put_moment(recording, rest),
         Some(("call", rest)) => put_call(alloc, recording, rest),
+        Some(("links", rest)) => put_links(alloc, recording, rest),
         Some(("raw", rest)) => put_raw(alloc, recording, rest),
         Some(_) => None,
         None => put_plain(recording, word),

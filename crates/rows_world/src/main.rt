@@ -54,30 +54,25 @@ impl Rows {
         Some(recording)
     }
 
-    /// Plays all, and prints what was not printed before.
+    /// Plays all, and prints what was not printed before. Where that can't be done, the row says what no disk or cloud can have at first.
     fn play(&mut self, rt: &impl Print, alloc: Global, name: &str) -> io::Result<()> {
         let Some(recording) = self.whole(alloc) else {
             return println!(rt; "{name} no memory");
         };
         match play::played(alloc, &self.setup, recording) {
-            Some(played) => self.print(rt, alloc, name, &played),
-            None => println!(rt; "{name} no memory"),
+            Some(played) => self.print(rt, name, &played),
+            None => println!(rt; "{name} cannot read this row"),
         }
     }
 
     /// Prints what was played, but what was printed before.
-    fn print(
-        &mut self,
-        rt: &impl Print,
-        alloc: Global,
-        name: &str,
-        played: &Outcome,
-    ) -> io::Result<()> {
+    fn print(&mut self, rt: &impl Print, name: &str, played: &Outcome) -> io::Result<()> {
         let behind = played.written.get(self.printed..).unwrap_or(&[]);
-        show::print_frames(rt, alloc, name, behind)?;
+        show::print_frames(rt, name, self.setup.skip, behind)?;
+        self.setup.skip = 0;
         self.printed = played.written.len();
         if let Some(site) = &played.left {
-            show::print_site(rt, alloc, name, &self.setup, site)?;
+            show::print_site(rt, name, &self.setup, site)?;
         }
         println!(rt; "{name} {}", played.ending)
     }

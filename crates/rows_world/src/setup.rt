@@ -39,9 +39,11 @@ pub struct Setup {
     /// The objects that the cloud has at first: `NAME:BYTES`.
     objects: Vec<String>,
     /// The bytes of the disk that are shown behind the frames: `PLACE:LENGTH`.
-    pub image: Option<(usize, usize)>,
+    pub images: Vec<(usize, usize)>,
     /// The objects that are shown then.
     pub shown: Vec<String>,
+    /// How many of the next frames are not printed.
+    pub skip: u64,
 }
 
 impl Setup {
@@ -60,8 +62,9 @@ impl Setup {
             stop: None,
             disk: Vec::new(alloc),
             objects: Vec::new(alloc),
-            image: None,
+            images: Vec::new(alloc),
             shown: Vec::new(alloc),
+            skip: 0,
         }
     }
 
@@ -69,14 +72,18 @@ impl Setup {
     pub fn take(&mut self, alloc: Global, key: &str, value: &str) -> Option<()> {
         match key {
             "volume" => self.fields.volume = value.parse::<u64>().ok()?,
+            "retained" => self.fields.retained = value.parse::<u32>().ok()?,
+            "threshold" => self.fields.threshold = value.parse::<u32>().ok()?,
+            "cache_items" => self.fields.cache_items = value.parse::<u32>().ok()?,
             "journal_area" => self.fields.journal_area = value.parse::<u64>().ok()?,
             "size" => self.size = value.parse::<u64>().ok()?,
+            "skip" => self.skip = value.parse::<u64>().ok()?,
             "room" => self.room = value.parse::<usize>().ok()?,
             "source_fails" => self.source_fails = numbers_of(alloc, value)?,
             "sink_fails" => self.sink_fails = numbers_of(alloc, value)?,
             "site_fails" => self.site_fails = fails_of(alloc, value)?,
             "stop" => self.stop = Some(stop_of(value)?),
-            "image" => self.image = Some(range_of(value)?),
+            "image" => self.images.push(range_of(value)?).ok()?,
             "disk" => keep(alloc, &mut self.disk, value)?,
             "object" => keep(alloc, &mut self.objects, value)?,
             "objects" => keep(alloc, &mut self.shown, value)?,
@@ -94,7 +101,7 @@ impl Setup {
     pub fn is_sure(&self) -> bool {
         let fails = !self.site_fails.is_empty() || self.stop.is_some();
         let begins = !self.disk.is_empty() || !self.objects.is_empty();
-        let shows = self.image.is_some() || !self.shown.is_empty();
+        let shows = !self.images.is_empty() || !self.shown.is_empty();
         !fails && !begins && !shows
     }
 

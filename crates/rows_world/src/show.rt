@@ -2,8 +2,7 @@
 
 use crate::setup::{Setup, name_of};
 use sky_memory::MemSite;
-use std::alloc::Global;
-use std::io;
+use std::{fmt, io};
 
 /// The bytes of a frame's header: its kind, its session and the length of its payload.
 const HEADER: usize = 9;
@@ -44,21 +43,68 @@ fn first_frame(bytes: &[u8]) -> Option<Shown<'_>> {
     })
 }
 
-/// Bytes in hexadecimal, `-` for none.
-fn hex_of(alloc: Global, bytes: &[u8]) -> io::Result<String> {
-    let text = if bytes.is_empty() {
-        String::from_str(alloc, "-")?
-    } else {
-        hex::encode(alloc, bytes)?
-    };
-    Ok(text)
+/// Bytes in hexadecimal, `-` for none. Eight or more of one value are written once, with their number behind `*`; parts are joined by `+`.
+#[derive(Clone, Copy)]
+struct Hex<'a>(&'a [u8]);
+
+/// How many bytes at the beginning are the same.
+fn run_of(bytes: &[u8]) -> usize {
+    match bytes.first() {
+        Some(first) => bytes.iter().take_while(|byte| **byte == *first).count(),
+        None => 0,
+    }
+}
+
+/// Writes bytes of one value behind what was written, if anything was: `joint` says whether what came before was a run.
+fn write_run<W: fmt::Write>(
+    f: &mut fmt::Formatter<W>,
+    run: &[u8],
+    begun: bool,
+    joint: bool,
+) -> fmt::Result {
+    let long = run.len() >= 8;
+    if joint || (long && begun) {
+        write!(f, "+")?;
+    }
+    match run.first() {
+        Some(byte) if long => write!(f, "{byte:02x}*{}", run.len()),
+        _ => write_digits(f, run),
+    }
+}
+
+/// Writes two digits for each byte.
+fn write_digits<W: fmt::Write>(f: &mut fmt::Formatter<W>, bytes: &[u8]) -> fmt::Result {
+    for byte in bytes {
+        write!(f, "{byte:02x}")?;
+    }
+    Ok(())
+}
+
+impl fmt::Display for Hex<'_> {
+    fn fmt<W: fmt::Write>(&self, f: &mut fmt::Formatter<W>) -> fmt::Result {
+        let bytes = self.0;
+        if bytes.is_empty() {
+            return write!(f, "-");
+        }
+        let mut left = bytes;
+        let mut joint = false;
+        for _ in 0..bytes.len() {
+            let (run, rest) = left.split_at(run_of(left).min(left.len()));
+            write_run(f, run, left.len() < bytes.len(), joint)?;
+            joint = run.len() >= 8;
+            left = rest;
+            if left.is_empty() {
+                break;
+            }
+        }
+        Ok(())
+    }
 }
 
 /// Prints a frame: its kind, its session, its payload, and behind `=` the payload's numbers.
-fn print_frame(rt: &impl Print, alloc: Global, name: &str, shown: &Shown<'_>) -> io::Result<()> {
+fn print_frame(rt: &impl Print, name: &str, shown: &Shown<'_>) -> io::Result<()> {
     let payload = shown.payload;
-    let text = hex_of(alloc, payload)?;
-    print!(rt; "{name} {} {} {text}", shown.kind, shown.session)?;
+    print!(rt; "{name} {} {} {}", shown.kind, shown.session, Hex(payload))?;
     match shown.kind {
         2 => print_reply(rt, payload)?,
         16 => print_longs(rt, payload, 8)?,
@@ -89,13 +135,15 @@ fn print_longs(rt: &impl Print, payload: &[u8], count: usize) -> io::Result<()> 
     Ok(())
 }
 
-/// Prints the frames that were written, and behind them the bytes of one that is not whole.
-pub fn print_frames(rt: &impl Print, alloc: Global, name: &str, written: &[u8]) -> io::Result<()> {
+/// Prints the frames that were written but the first few, and behind them the bytes of one that is not whole.
+pub fn print_frames(rt: &impl Print, name: &str, skip: u64, written: &[u8]) -> io::Result<()> {
     let mut left = written;
-    for _ in 0..written.len() {
+    for number in 0..written.len() as u64 {
         match first_frame(left) {
             Some(shown) => {
-                print_frame(rt, alloc, name, &shown)?;
+                if number >= skip {
+                    print_frame(rt, name, &shown)?;
+                }
                 left = shown.rest;
             }
             None => break,
@@ -104,24 +152,19 @@ pub fn print_frames(rt: &impl Print, alloc: Global, name: &str, written: &[u8]) 
     if left.is_empty() {
         return Ok(());
     }
-    let text = hex_of(alloc, left)?;
-    println!(rt; "{name} cut {text}")
+    println!(rt; "{name} cut {}", Hex(left))
 }
 
 /// Prints what a row shows of the site that it left: bytes of the disk, and objects.
-pub fn print_site(
-    rt: &impl Print,
-    alloc: Global,
-    name: &str,
-    setup: &Setup,
-    site: &MemSite,
-) -> io::Result<()> {
-    if let Some((at, length)) = setup.image {
-        let text = hex_of(alloc, part_of(site.image(), at, length))?;
-        println!(rt; "{name} image {at} {text}")?;
+pub fn print_site(rt: &impl Print, name: &str, setup: &Setup, site: &MemSite) -> io::Result<()> {
+    for (at, length) in &setup.images {
+        println!(rt;
+            "{name} image {at} {}",
+            Hex(part_of(site.image(), *at, *length))
+        )?;
     }
     for object in &setup.shown {
-        print_object(rt, alloc, name, object.as_str(), site)?;
+        print_object(rt, name, object.as_str(), site)?;
     }
     Ok(())
 }
@@ -133,18 +176,9 @@ fn part_of(bytes: &[u8], at: usize, length: usize) -> &[u8] {
 }
 
 /// Prints the bytes of an object.
-fn print_object(
-    rt: &impl Print,
-    alloc: Global,
-    name: &str,
-    object: &str,
-    site: &MemSite,
-) -> io::Result<()> {
+fn print_object(rt: &impl Print, name: &str, object: &str, site: &MemSite) -> io::Result<()> {
     match name_of(object).and_then(|name| site.held(name)) {
-        Some(bytes) => {
-            let text = hex_of(alloc, bytes)?;
-            println!(rt; "{name} object {object} {text}")
-        }
+        Some(bytes) => println!(rt; "{name} object {object} {}", Hex(bytes)),
         None => println!(rt; "{name} object {object} none"),
     }
 }
