@@ -13,7 +13,7 @@ pub struct BlockItem {
 }
 
 /// When a node was last read, when its content last changed, and when its content or its attributes last changed.
-#[derive(Clone, Copy, PartialEq, Eq)]
+#[derive(Clone, Copy)]
 pub struct Times {
     pub atime: Moment,
     pub mtime: Moment,
@@ -21,7 +21,7 @@ pub struct Times {
 }
 
 /// What an inode says of a node of any kind.
-#[derive(Clone, Copy, PartialEq, Eq)]
+#[derive(Clone, Copy)]
 pub struct Attributes {
     /// The access bits, below 0o10000.
     pub mode: u32,

@@ -81,7 +81,7 @@ impl BlockLinks {
 }
 
 /// An item that goes by a number: an inode by its fileid, or a page of the map of inodes by the page's number.
-#[derive(Clone, Copy, PartialEq, Eq)]
+#[derive(Clone, Copy)]
 pub struct NumberedLink {
     pub number: u64,
     pub link: Link,

@@ -6,7 +6,7 @@ ghost use Rattle.sky_base.specs.Limits.{max_handle_bytes};
 use std::marker::Model;
 
 /// A file handle of this server: the volume and the node that it names.
-#[derive(Clone, Copy, PartialEq, Eq)]
+#[derive(Clone, Copy)]
 pub struct Handle {
     /// The volume's number.
     pub volume: u64,
