@@ -25,7 +25,7 @@ use std::alloc::Global;
 const FRAME_LIMIT: u64 = 1 << 32;
 
 /// Why no further frame is handled.
-#[derive(Clone, Copy, Debug, PartialEq, Eq)]
+#[derive(Clone, Copy)]
 pub enum Stop {
     /// The end of the recording was read.
     End,

@@ -7,7 +7,7 @@ use sky_xdr::XdrFault;
 use std::alloc::AllocError;
 
 /// Why arguments could not be read.
-#[derive(Clone, Copy, Debug, PartialEq, Eq)]
+#[derive(Clone, Copy)]
 pub enum ArgFault {
     /// There is no procedure of this number.
     NoSuchProc,

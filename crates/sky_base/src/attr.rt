@@ -3,7 +3,7 @@
 use super::Moment;
 
 /// What kind of object a node is (`ftype3`, RFC 1813 section 2.6, as far as this server has them).
-#[derive(Clone, Copy, Debug, PartialEq, Eq)]
+#[derive(Clone, Copy, PartialEq, Eq)]
 pub enum Kind {
     /// 1, `NF3REG`: a regular file.
     Regular,
@@ -14,7 +14,7 @@ pub enum Kind {
 }
 
 /// The two numbers of a device (`specdata3`, RFC 1813 section 2.6).
-#[derive(Clone, Copy, Debug, PartialEq, Eq)]
+#[derive(Clone, Copy, PartialEq, Eq)]
 pub struct Device {
     /// The first word, the major number.
     pub major: u32,
@@ -23,7 +23,7 @@ pub struct Device {
 }
 
 /// The attributes of an object (`fattr3`, RFC 1813 section 2.6).
-#[derive(Clone, Copy, Debug, PartialEq, Eq)]
+#[derive(Clone, Copy, PartialEq, Eq)]
 pub struct Attr {
     pub kind: Kind,
     /// The access bits, below 0o10000.

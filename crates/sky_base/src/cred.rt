@@ -6,7 +6,7 @@ ghost use Rattle.sky_base.specs.Limits.{max_gids};
 use std::marker::Model;
 
 /// What a caller asks to do with an object.
-#[derive(Clone, Copy, Debug, PartialEq, Eq)]
+#[derive(Clone, Copy, PartialEq, Eq)]
 pub enum Want {
     /// To read a file or list a directory.
     Read,
@@ -17,7 +17,7 @@ pub enum Want {
 }
 
 /// The further groups of a caller (`authsys_parms`, RFC 5531 appendix A): at most 16. Contracts see them as a list.
-#[derive(Debug, Drop)]
+#[derive(Drop)]
 pub struct Gids {
     ids: [u32; Gids::MAX],
     count: usize,
@@ -75,7 +75,7 @@ impl Gids {
 }
 
 /// Who calls (`authsys_parms`, RFC 5531 appendix A): a user, its group and its further groups.
-#[derive(Debug, Drop)]
+#[derive(Drop)]
 pub struct Cred {
     pub uid: u32,
     pub gid: u32,

@@ -6,7 +6,7 @@ ghost use Rattle.sky_base.specs.Limits.{max_name_bytes};
 use std::marker::Model;
 
 /// The name of an entry of a directory: at most 255 bytes. Contracts see it as the list of its bytes.
-#[derive(Debug, Drop)]
+#[derive(Drop)]
 pub struct Name {
     bytes: Vec<u8>,
 }

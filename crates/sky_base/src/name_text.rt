@@ -9,7 +9,7 @@ ghost use Rattle.sky_base.specs.declared.object.SegName.{SegName};
 use crate::object::{Dir, SegName};
 
 /// The text is not that of an object's name.
-#[derive(Clone, Copy, Debug, PartialEq, Eq)]
+#[derive(Clone, Copy, PartialEq, Eq)]
 pub struct NotAName;
 
 /// How many digits a number has in a name.

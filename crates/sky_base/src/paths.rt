@@ -5,7 +5,7 @@ ghost use Rattle.std.specs.Prelude.{◌≡◌, string_bytes};
 use std::marker::Model;
 
 /// A text, which contracts see as its bytes in UTF-8.
-#[derive(Debug, Drop)]
+#[derive(Drop)]
 pub struct Text {
     string: String,
 }
@@ -42,7 +42,7 @@ impl Text {
 }
 
 /// What the words of the command line name. What isn't named is `None`.
-#[derive(Debug, Drop)]
+#[derive(Drop)]
 pub struct Paths {
     /// The journal's file.
     pub journal: Option<Text>,

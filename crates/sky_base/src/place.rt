@@ -15,7 +15,7 @@ pub struct ItemId {
 }
 
 /// Where an item lies in the cloud: in a segment, an object of the kind `.s`.
-#[derive(Clone, Copy, Debug, PartialEq, Eq)]
+#[derive(Clone, Copy, PartialEq, Eq)]
 pub struct Location {
     /// Whose directory the segment lies in.
     pub dir: Dir,
@@ -47,7 +47,7 @@ impl Location {
 }
 
 /// An item and where it lies.
-#[derive(Clone, Copy, Debug, PartialEq, Eq)]
+#[derive(Clone, Copy, PartialEq, Eq)]
 pub struct Link {
     pub id: ItemId,
     pub at: Location,
@@ -79,7 +79,7 @@ pub enum Damage {
 }
 
 /// Why an item cannot be had from the cloud.
-#[derive(Clone, Copy, Debug, PartialEq, Eq)]
+#[derive(Clone, Copy, PartialEq, Eq)]
 pub enum Lost {
     /// The cloud holds no object of this name.
     Missing { name: SegName },

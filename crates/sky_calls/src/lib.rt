@@ -11,6 +11,3 @@ mod stable;
 
 pub use durable::DurableTree;
 pub use outcome::Outcome;
-
-#[cfg(test)]
-mod tests;

@@ -3,7 +3,7 @@
 use sky_nfs::Answer;
 
 /// What becomes of a change.
-#[derive(Debug, Drop)]
+#[derive(Drop)]
 pub enum Outcome {
     /// It was answered: done, or refused.
     Done(Answer),

@@ -10,7 +10,7 @@ use sky_item::{CheckItem, Fileids, Item, NumberedLink, NumberedLinks};
 use std::marker::Model;
 
 /// Where the pages of the map of inodes lie. Contracts see them as a finite map from their numbers to these places.
-#[derive(Debug, Drop)]
+#[derive(Drop)]
 pub struct PageLinks {
     links: Vec<NumberedLink>,
 }
@@ -71,7 +71,7 @@ impl PageLinks {
 
 /// A checkpoint: where the map of inodes lies, and up to which change of the history it stands for it. The fields are those of
 /// the item.
-#[derive(Debug, Drop)]
+#[derive(Drop)]
 pub struct Check {
     pub id: ItemId,
     /// The number of the volume.

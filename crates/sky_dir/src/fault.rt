@@ -3,7 +3,7 @@
 use sky_base::NoMemory;
 
 /// Why an entry wasn't added.
-#[derive(Clone, Copy, Debug, PartialEq, Eq)]
+#[derive(Clone, Copy)]
 pub enum DirFault {
     /// There was no memory for it.
     Memory,

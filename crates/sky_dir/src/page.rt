@@ -11,7 +11,7 @@ use std::collections::btree_map::Range;
 use std::marker::Model;
 
 /// An entry as a page shows it.
-#[derive(Clone, Copy, Debug)]
+#[derive(Clone, Copy)]
 pub struct Listed<'a> {
     /// The cookie behind which a listing goes on.
     pub cookie: u64,

@@ -8,7 +8,7 @@ use sky_xdr::XdrFault;
 use std::alloc::AllocError;
 
 /// Why no entry was read.
-#[derive(Clone, Copy, Debug, PartialEq, Eq)]
+#[derive(Clone, Copy)]
 pub enum EntryFault {
     /// The bytes do not begin with an entry.
     Bad,

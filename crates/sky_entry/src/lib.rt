@@ -17,6 +17,3 @@ pub use laws::{entries_have_one_reading, entry_at_decides, written_entries_are_r
 pub use length::entry_length;
 pub use reading::read_entry;
 pub use writing::write_entry;
-
-#[cfg(test)]
-mod tests;

@@ -23,7 +23,7 @@ pub fn page_of(fileid: u64) -> u64
 ///
 /// `slot` takes time in the logarithm of the number of slots. `set` and `clear` move what stands behind the slot, which are
 /// fewer than 2,048.
-#[derive(Debug, Drop)]
+#[derive(Drop)]
 pub struct Page {
     number: u64,
     slots: Vec<NumberedLink>,

@@ -8,7 +8,7 @@ use sky_base::Damage;
 use std::alloc::AllocError;
 
 /// Why no item was read.
-#[derive(Clone, Copy, Debug, PartialEq, Eq)]
+#[derive(Clone, Copy)]
 pub enum ItemFault {
     /// The bytes are no item.
     Damage(Damage),
@@ -17,7 +17,7 @@ pub enum ItemFault {
 }
 
 /// Why a field was not taken.
-#[derive(Clone, Copy, Debug, PartialEq, Eq)]
+#[derive(Clone, Copy)]
 pub enum Refusal {
     /// It is not of the format.
     At {

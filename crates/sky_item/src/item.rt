@@ -6,14 +6,14 @@ use crate::lists::{BlockLinks, DirRows, Fileids, ItemBytes, NumberedLinks};
 use sky_base::{ItemId, Moment};
 
 /// A block: 1 to 32,768 bytes of a file, from a multiple of 32,768 on. What of that range lies behind them in the file is zero.
-#[derive(Debug, Drop)]
+#[derive(Drop)]
 pub struct BlockItem {
     pub id: ItemId,
     pub bytes: ItemBytes,
 }
 
 /// When a node was last read, when its content last changed, and when its content or its attributes last changed.
-#[derive(Clone, Copy, Debug, PartialEq, Eq)]
+#[derive(Clone, Copy)]
 pub struct Times {
     pub atime: Moment,
     pub mtime: Moment,
@@ -21,7 +21,7 @@ pub struct Times {
 }
 
 /// What an inode says of a node of any kind.
-#[derive(Clone, Copy, Debug, PartialEq, Eq)]
+#[derive(Clone, Copy)]
 pub struct Attributes {
     /// The access bits, below 0o10000.
     pub mode: u32,
@@ -37,7 +37,7 @@ pub struct Attributes {
 }
 
 /// What a node holds.
-#[derive(Debug, Drop)]
+#[derive(Drop)]
 pub enum Content {
     /// A regular file.
     Regular {
@@ -63,7 +63,7 @@ pub enum Content {
 }
 
 /// An inode: a node of the tree, with links to the blocks of a file.
-#[derive(Debug, Drop)]
+#[derive(Drop)]
 pub struct InodeItem {
     pub id: ItemId,
     pub attributes: Attributes,
@@ -71,7 +71,7 @@ pub struct InodeItem {
 }
 
 /// A page of the map of inodes: where the inodes of 2,048 fileids lie, by these.
-#[derive(Debug, Drop)]
+#[derive(Drop)]
 pub struct PageItem {
     pub id: ItemId,
     /// The number of the page, below 32,768: the fileids divided by 2,048.
@@ -81,7 +81,7 @@ pub struct PageItem {
 }
 
 /// A checkpoint: where the map of inodes lies, and up to which change of the history it stands for it.
-#[derive(Debug, Drop)]
+#[derive(Drop)]
 pub struct CheckItem {
     pub id: ItemId,
     /// The number of the volume, from 1 to 2^62.
@@ -105,7 +105,7 @@ pub struct CheckItem {
 }
 
 /// An item of the log.
-#[derive(Debug, Drop)]
+#[derive(Drop)]
 pub enum Item {
     /// 1: bytes of a file.
     Block(BlockItem),

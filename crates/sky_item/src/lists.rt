@@ -6,7 +6,7 @@ use sky_base::{Link, Name};
 use std::marker::Model;
 
 /// Bytes of an item: those of a block, or the text of a symbolic link. Contracts see them as a list.
-#[derive(Debug, Drop)]
+#[derive(Drop)]
 pub struct ItemBytes {
     bytes: Vec<u8>,
 }
@@ -43,7 +43,7 @@ impl ItemBytes {
 }
 
 /// The blocks of a file in order: where each lies, and `None` for a hole. Contracts see them as a list.
-#[derive(Debug, Drop)]
+#[derive(Drop)]
 pub struct BlockLinks {
     links: Vec<Option<Link>>,
 }
@@ -81,14 +81,14 @@ impl BlockLinks {
 }
 
 /// An item that goes by a number: an inode by its fileid, or a page of the map of inodes by the page's number.
-#[derive(Clone, Copy, Debug, PartialEq, Eq)]
+#[derive(Clone, Copy)]
 pub struct NumberedLink {
     pub number: u64,
     pub link: Link,
 }
 
 /// Items that go by numbers, each once, ascending by these. Contracts see them as a list.
-#[derive(Debug, Drop)]
+#[derive(Drop)]
 pub struct NumberedLinks {
     links: Vec<NumberedLink>,
 }
@@ -127,7 +127,7 @@ impl NumberedLinks {
 
 /// The entries of a directory in order, each a row of its cookie, its name and the fileid that it names. Contracts see them as
 /// a list.
-#[derive(Debug, Drop)]
+#[derive(Drop)]
 pub struct DirRows {
     rows: Vec<(u64, Name, u64)>,
 }
@@ -164,7 +164,7 @@ impl DirRows {
 }
 
 /// The numbers of files, each once, ascending. Contracts see them as a list.
-#[derive(Debug, Drop)]
+#[derive(Drop)]
 pub struct Fileids {
     ids: Vec<u64>,
 }

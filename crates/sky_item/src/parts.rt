@@ -3,7 +3,7 @@
 use sky_base::ItemId;
 
 /// What stands before the locations of an item.
-#[derive(Clone, Copy, Debug, PartialEq, Eq)]
+#[derive(Clone, Copy)]
 pub struct Head {
     /// Of which kind it is, from 1 to 4.
     pub kind: u32,
@@ -17,7 +17,7 @@ pub struct Head {
 }
 
 /// The first fields of a node behind its kind.
-#[derive(Clone, Copy, Debug, PartialEq, Eq)]
+#[derive(Clone, Copy)]
 pub struct Owner {
     pub mode: u32,
     pub nlink: u32,
@@ -26,7 +26,7 @@ pub struct Owner {
 }
 
 /// The first fields of a checkpoint.
-#[derive(Clone, Copy, Debug, PartialEq, Eq)]
+#[derive(Clone, Copy)]
 pub struct CheckNumbers {
     pub volume: u64,
     pub covers: u64,

@@ -8,7 +8,7 @@ use sky_outside::Failed;
 use std::alloc::AllocError;
 
 /// Why no journal was read.
-#[derive(Clone, Copy, Debug, PartialEq, Eq)]
+#[derive(Clone, Copy)]
 pub enum JournalFault {
     /// The disk failed.
     DiskFault,
@@ -38,7 +38,7 @@ impl From<AllocError> for JournalFault {
 }
 
 /// Why no entry was given.
-#[derive(Clone, Copy, Debug, PartialEq, Eq)]
+#[derive(Clone, Copy)]
 pub enum NextFault {
     /// The disk failed.
     DiskFault,
@@ -90,7 +90,7 @@ impl From<NextFault> for JournalFault {
 }
 
 /// Why an entry was not appended.
-#[derive(Clone, Copy, Debug, PartialEq, Eq)]
+#[derive(Clone, Copy)]
 pub enum AppendFault {
     /// The newer area has no room for the batch with this entry.
     Full {

@@ -30,6 +30,3 @@ pub use journal::Journal;
 pub use open_area::OpenArea;
 pub use place::Place;
 pub use read::read_journal;
-
-#[cfg(test)]
-mod tests;

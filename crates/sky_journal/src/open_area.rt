@@ -1,7 +1,7 @@
 //! An open area of the journal, as it is known in memory.
 
 /// An open area: where it lies, and how far it is filled.
-#[derive(Clone, Copy, Debug, PartialEq, Eq)]
+#[derive(Clone, Copy)]
 pub struct OpenArea {
     /// Where it begins on the disk, in bytes: 0, or the size of an area.
     pub start: u64,

@@ -21,7 +21,7 @@ use crate::span::Span;
 use sky_outside::{Disk, Failed};
 
 /// A place between the entries that are on the disk.
-#[derive(Clone, Copy, Debug, PartialEq, Eq)]
+#[derive(Clone, Copy)]
 pub struct Place {
     /// Whether it is in the newer or only open area.
     pub newer: bool,

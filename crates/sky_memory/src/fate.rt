@@ -10,7 +10,7 @@ use crate::record::{Record, Step};
 use sky_outside::{Failed, PutFault};
 
 /// A call that fails.
-#[derive(Clone, Copy, Debug, PartialEq, Eq)]
+#[derive(Clone, Copy)]
 pub struct Fail {
     /// Its number, where the first call of the site has the number 0.
     pub call: u64,

@@ -17,6 +17,3 @@ pub use mem_site::MemSite;
 pub use sink::{MemSink, SureSink};
 pub use site::SureSite;
 pub use source::{MemSource, SureSource};
-
-#[cfg(test)]
-mod tests;

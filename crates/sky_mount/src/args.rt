@@ -12,7 +12,7 @@ use sky_xdr::{Reader, XdrFault};
 const MAX_PATH_BYTES: u32 = 1024;
 
 /// A call of MOUNT with its arguments (RFC 1813, section 5.2), in the order of the procedures' numbers 0 to 5.
-#[derive(Clone, Copy, Debug, PartialEq, Eq)]
+#[derive(Clone, Copy)]
 pub enum MountCall<'a> {
     /// 0: does nothing.
     Null,
@@ -29,7 +29,7 @@ pub enum MountCall<'a> {
 }
 
 /// Why arguments could not be read.
-#[derive(Clone, Copy, Debug, PartialEq, Eq)]
+#[derive(Clone, Copy)]
 pub enum ArgFault {
     /// There is no procedure of this number.
     NoSuchProc,

@@ -7,14 +7,14 @@ use sky_base::{Attr, Moment};
 use std::marker::Model;
 
 /// A refusal, with the attributes that go with it.
-#[derive(Clone, Copy, Debug, PartialEq, Eq)]
+#[derive(Clone, Copy)]
 pub struct Refused<A> {
     pub status: NfsStatus,
     pub attributes: A,
 }
 
 /// What tells whether an object changed (`wcc_attr`, RFC 1813 section 2.6).
-#[derive(Clone, Copy, Debug, PartialEq, Eq)]
+#[derive(Clone, Copy)]
 pub struct WccAttr {
     pub size: u64,
     /// When its content last changed.
@@ -24,14 +24,14 @@ pub struct WccAttr {
 }
 
 /// An object before and after a call (`wcc_data`, RFC 1813 section 2.6). What isn't told is `None`.
-#[derive(Clone, Copy, Debug, PartialEq, Eq)]
+#[derive(Clone, Copy)]
 pub struct WccData {
     pub before: Option<WccAttr>,
     pub after: Option<Attr>,
 }
 
 /// What LOOKUP found (RFC 1813 section 3.3.3).
-#[derive(Clone, Copy, Debug, PartialEq, Eq)]
+#[derive(Clone, Copy)]
 pub struct LookupOk {
     pub handle: Handle,
     /// The object's attributes.
@@ -41,7 +41,7 @@ pub struct LookupOk {
 }
 
 /// The rights that a caller has (RFC 1813 section 3.3.4).
-#[derive(Clone, Copy, Debug, PartialEq, Eq)]
+#[derive(Clone, Copy)]
 pub struct AccessOk {
     /// The object's attributes.
     pub object: Option<Attr>,
@@ -50,7 +50,7 @@ pub struct AccessOk {
 }
 
 /// A symbolic link (RFC 1813 section 3.3.5).
-#[derive(Debug, Drop)]
+#[derive(Drop)]
 pub struct ReadLinkOk {
     /// The link's attributes.
     pub link: Option<Attr>,
@@ -58,7 +58,7 @@ pub struct ReadLinkOk {
 }
 
 /// Bytes read (RFC 1813 section 3.3.6). Their count is the data's length.
-#[derive(Debug, Drop)]
+#[derive(Drop)]
 pub struct ReadOk {
     /// The file's attributes.
     pub file: Option<Attr>,
@@ -68,7 +68,7 @@ pub struct ReadOk {
 }
 
 /// Bytes written (RFC 1813 section 3.3.7).
-#[derive(Clone, Copy, Debug, PartialEq, Eq)]
+#[derive(Clone, Copy)]
 pub struct WriteOk {
     /// The file before and after.
     pub file: WccData,
@@ -81,7 +81,7 @@ pub struct WriteOk {
 }
 
 /// A new object, or the one that had the name (RFC 1813 sections 3.3.8 to 3.3.10).
-#[derive(Clone, Copy, Debug, PartialEq, Eq)]
+#[derive(Clone, Copy)]
 pub struct CreateOk {
     pub handle: Handle,
     /// The object's attributes.
@@ -91,7 +91,7 @@ pub struct CreateOk {
 }
 
 /// Both directories of a RENAME (RFC 1813 section 3.3.14).
-#[derive(Clone, Copy, Debug, PartialEq, Eq)]
+#[derive(Clone, Copy)]
 pub struct RenameResults {
     /// The one that had the name, before and after.
     pub from: WccData,
@@ -100,7 +100,7 @@ pub struct RenameResults {
 }
 
 /// The file and the directory of a LINK (RFC 1813 section 3.3.15).
-#[derive(Clone, Copy, Debug, PartialEq, Eq)]
+#[derive(Clone, Copy)]
 pub struct LinkResults {
     /// The file's attributes.
     pub file: Option<Attr>,
@@ -109,7 +109,7 @@ pub struct LinkResults {
 }
 
 /// An entry of a listing (`entry3`, RFC 1813 section 3.3.16).
-#[derive(Debug, Drop)]
+#[derive(Drop)]
 pub struct ListedEntry {
     pub fileid: u64,
     pub name: Bytes,
@@ -118,7 +118,7 @@ pub struct ListedEntry {
 }
 
 /// An entry of a listing with attributes (`entryplus3`, RFC 1813 section 3.3.17).
-#[derive(Debug, Drop)]
+#[derive(Drop)]
 pub struct ListedEntryPlus {
     pub entry: ListedEntry,
     pub attributes: Option<Attr>,
@@ -126,7 +126,7 @@ pub struct ListedEntryPlus {
 }
 
 /// The entries of a page. Contracts see them as a list.
-#[derive(Debug, Drop)]
+#[derive(Drop)]
 pub struct ListedEntries {
     entries: Vec<ListedEntry>,
 }
@@ -164,7 +164,7 @@ impl ListedEntries {
 }
 
 /// The entries of a page with attributes. Contracts see them as a list.
-#[derive(Debug, Drop)]
+#[derive(Drop)]
 pub struct ListedEntriesPlus {
     entries: Vec<ListedEntryPlus>,
 }
@@ -202,7 +202,7 @@ impl ListedEntriesPlus {
 }
 
 /// A page of a listing (RFC 1813 section 3.3.16). Its cookie verifier is zero.
-#[derive(Debug, Drop)]
+#[derive(Drop)]
 pub struct ReadDirOk {
     /// The directory's attributes.
     pub directory: Option<Attr>,
@@ -212,7 +212,7 @@ pub struct ReadDirOk {
 }
 
 /// A page of a listing with attributes (RFC 1813 section 3.3.17). Its cookie verifier is zero.
-#[derive(Debug, Drop)]
+#[derive(Drop)]
 pub struct ReadDirPlusOk {
     /// The directory's attributes.
     pub directory: Option<Attr>,
@@ -222,7 +222,7 @@ pub struct ReadDirPlusOk {
 }
 
 /// How full the file system is (RFC 1813 section 3.3.18).
-#[derive(Clone, Copy, Debug, PartialEq, Eq)]
+#[derive(Clone, Copy)]
 pub struct FsStatOk {
     /// The root's attributes.
     pub root: Option<Attr>,
@@ -243,7 +243,7 @@ pub struct FsStatOk {
 }
 
 /// What the file system can do (RFC 1813 section 3.3.19).
-#[derive(Clone, Copy, Debug, PartialEq, Eq)]
+#[derive(Clone, Copy)]
 pub struct FsInfoOk {
     /// The root's attributes.
     pub root: Option<Attr>,
@@ -270,7 +270,7 @@ pub struct FsInfoOk {
 }
 
 /// The limits on names and links (RFC 1813 section 3.3.20).
-#[derive(Clone, Copy, Debug, PartialEq, Eq)]
+#[derive(Clone, Copy)]
 pub struct PathConfOk {
     /// The object's attributes.
     pub object: Option<Attr>,
@@ -289,7 +289,7 @@ pub struct PathConfOk {
 }
 
 /// What was written is stable (RFC 1813 section 3.3.21).
-#[derive(Clone, Copy, Debug, PartialEq, Eq)]
+#[derive(Clone, Copy)]
 pub struct CommitOk {
     /// The file before and after.
     pub file: WccData,
@@ -299,7 +299,7 @@ pub struct CommitOk {
 
 /// The answer to a call: of each procedure its results, or the refusal with the attributes that go with it (RFC 1813
 /// section 3.3). In the order of the procedures' numbers.
-#[derive(Debug, Drop)]
+#[derive(Drop)]
 pub enum Answer {
     /// 0.
     Null,

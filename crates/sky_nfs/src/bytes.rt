@@ -6,7 +6,7 @@ use std::marker::Model;
 
 /// Bytes of a call or an answer, of whatever length: the name of an entry as a caller sent it, the text of a link, the
 /// data of a read or a write. Contracts see them as a list.
-#[derive(Debug, Drop)]
+#[derive(Drop)]
 pub struct Bytes {
     bytes: Vec<u8>,
 }

@@ -7,7 +7,7 @@ use super::{Bytes, RawHandle};
 use sky_base::{Cred, Device, Moment};
 
 /// How a time is set (`set_atime` and `set_mtime`, RFC 1813 section 2.6).
-#[derive(Clone, Copy, Debug, PartialEq, Eq)]
+#[derive(Clone, Copy)]
 pub enum SetTime {
     /// It isn't set.
     Keep,
@@ -18,7 +18,7 @@ pub enum SetTime {
 }
 
 /// The attributes that a call sets (`sattr3`, RFC 1813 section 2.6). What is `None` isn't set.
-#[derive(Clone, Copy, Debug, PartialEq, Eq)]
+#[derive(Clone, Copy)]
 pub struct SetAttr {
     /// The access bits, of which the lowest 12 count.
     pub mode: Option<u32>,
@@ -32,7 +32,7 @@ pub struct SetAttr {
 }
 
 /// A name in a directory (`diropargs3`, RFC 1813 section 2.6).
-#[derive(Debug, Drop)]
+#[derive(Drop)]
 pub struct DirOpArgs {
     pub directory: RawHandle,
     /// The name as the caller sent it, of whatever length.
@@ -40,7 +40,7 @@ pub struct DirOpArgs {
 }
 
 /// How a file is made (`createhow3`, RFC 1813 section 3.3.8).
-#[derive(Clone, Copy, Debug, PartialEq, Eq)]
+#[derive(Clone, Copy)]
 pub enum CreateHow {
     /// With these attributes; a file that has the name is taken as it is.
     Unchecked(SetAttr),
@@ -51,7 +51,7 @@ pub enum CreateHow {
 }
 
 /// What is made by MKNOD (`mknoddata3`, RFC 1813 section 3.3.11).
-#[derive(Clone, Copy, Debug, PartialEq, Eq)]
+#[derive(Clone, Copy)]
 pub enum MknodData {
     /// 1: a regular file, which MKNOD doesn't make.
     Regular,
@@ -70,7 +70,7 @@ pub enum MknodData {
 }
 
 /// How stable written data is to be (`stable_how`, RFC 1813 section 3.3.7).
-#[derive(Clone, Copy, Debug, PartialEq, Eq)]
+#[derive(Clone, Copy)]
 pub enum StableHow {
     /// 0: it may be lost until a COMMIT.
     Unstable,
@@ -82,7 +82,7 @@ pub enum StableHow {
 
 /// A call of NFS version 3 with its arguments: one variant for each procedure of RFC 1813 section 3.3, in the order of
 /// their numbers 0 to 21.
-#[derive(Debug, Drop)]
+#[derive(Drop)]
 pub enum Call {
     /// 0: does nothing.
     Null,
@@ -219,7 +219,7 @@ impl Call {
 }
 
 /// A change of the tree: who called, when, and what.
-#[derive(Debug, Drop)]
+#[derive(Drop)]
 pub struct Change {
     pub cred: Cred,
     pub moment: Moment,

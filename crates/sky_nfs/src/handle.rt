@@ -6,7 +6,7 @@ ghost use Rattle.sky_base.specs.Limits.{max_handle_bytes};
 use std::marker::Model;
 
 /// A file handle of this server: the volume and the node that it names.
-#[derive(Clone, Copy, Debug, PartialEq, Eq)]
+#[derive(Clone, Copy)]
 pub struct Handle {
     /// The volume's number.
     pub volume: u64,
@@ -16,7 +16,7 @@ pub struct Handle {
 
 /// A file handle as a caller sent it (`nfs_fh3`, RFC 1813 section 2.6): at most 64 bytes. Contracts see it as the
 /// list of its bytes.
-#[derive(Debug, Drop)]
+#[derive(Drop)]
 pub struct RawHandle {
     bytes: [u8; RawHandle::MAX],
     count: usize,

@@ -5,7 +5,7 @@ ghost use Rattle.sky_nfs.specs.NfsStatus.{number_of};
 
 /// Why a call is refused: the statuses of RFC 1813 section 2.6 that this server answers, by the RFC's names. An
 /// answer that is no refusal has the status `NFS3_OK`, 0, and no value of this type.
-#[derive(Clone, Copy, Debug, PartialEq, Eq)]
+#[derive(Clone, Copy)]
 pub enum NfsStatus {
     /// `NFS3ERR_PERM`: only the owner or user 0 may do it.
     Perm,

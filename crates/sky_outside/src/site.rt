@@ -16,7 +16,7 @@ use crate::stream::Failed;
 use sky_base::SegName;
 
 /// Why an object could not be put, or the objects not be listed.
-#[derive(Clone, Copy, Debug, PartialEq, Eq)]
+#[derive(Clone, Copy)]
 pub enum PutFault {
     /// The cloud failed. An object may be there all the same.
     Failed,
@@ -25,7 +25,7 @@ pub enum PutFault {
 }
 
 /// Why an object's bytes could not be read.
-#[derive(Clone, Copy, Debug, PartialEq, Eq)]
+#[derive(Clone, Copy)]
 pub enum GetFault {
     /// The cloud failed.
     Failed,
@@ -39,7 +39,7 @@ pub enum GetFault {
 }
 
 /// An object that the cloud holds.
-#[derive(Clone, Copy, Debug, PartialEq, Eq)]
+#[derive(Clone, Copy)]
 pub struct Held {
     pub name: SegName,
     /// In bytes.

@@ -5,7 +5,7 @@ ghost use Rattle.sky_outside.specs.Count.{Counts};
 ghost use Rattle.sky_outside.specs.Told.{WhereTold, Had, Given};
 
 /// A device failed. Its count of faults rose.
-#[derive(Clone, Copy, Debug, PartialEq, Eq)]
+#[derive(Clone, Copy)]
 pub struct Failed;
 
 /// Where bytes come from: a recorded session, or a client's connection.

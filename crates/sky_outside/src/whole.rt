@@ -8,7 +8,7 @@ ghost use Rattle.sky_outside.specs.declared.whole.FillFault.TheVariants.{Broken}
 use crate::stream::{Failed, Sink, Source};
 
 /// Why a buffer could not be filled.
-#[derive(Clone, Copy, Debug, PartialEq, Eq)]
+#[derive(Clone, Copy)]
 pub enum FillFault {
     /// The source ended before the buffer was full.
     Early,

@@ -21,7 +21,7 @@ const LAST: u32 = 0x8000_0000;
 const HEADER_SIZE: usize = 4;
 
 /// What a piece of a stream led to.
-#[derive(Clone, Copy, Debug, PartialEq, Eq)]
+#[derive(Clone, Copy)]
 pub enum Fed {
     /// The bytes that were taken end a record. It is the message until the assembler is cleared.
     Message,

@@ -5,7 +5,7 @@ use sky_journal::{JournalFault, NextFault};
 use sky_outside::Failed;
 
 /// Why a site was not opened.
-#[derive(Clone, Copy, Debug, PartialEq, Eq)]
+#[derive(Clone, Copy)]
 pub enum OpenFault {
     /// The journal's disk failed.
     DiskFault,

@@ -18,6 +18,3 @@ mod settling;
 pub use fault::OpenFault;
 pub use opened::Opened;
 pub use opening::recover;
-
-#[cfg(test)]
-mod tests;

@@ -1,7 +1,7 @@
 //! What an opening says of a site.
 
 /// The numbers of an opening.
-#[derive(Clone, Copy, Debug, PartialEq, Eq)]
+#[derive(Clone, Copy)]
 pub struct Opened {
     /// The epoch that it claimed: 1 to 2^62 - 1.
     pub epoch: u64,

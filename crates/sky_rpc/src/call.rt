@@ -20,7 +20,7 @@ const RPC_VERSION: u32 = 2;
 const MAX_AUTH_BYTES: u32 = 400;
 
 /// Why a message is no call that is answered by its procedure.
-#[derive(Clone, Copy, Debug, PartialEq, Eq)]
+#[derive(Clone, Copy)]
 pub enum RpcRefusal {
     /// It is no call, or not a whole one: there is nothing to answer.
     NotCall,
@@ -31,7 +31,7 @@ pub enum RpcRefusal {
 }
 
 /// A call (`call_body`, RFC 5531 section 9).
-#[derive(Debug, Drop)]
+#[derive(Drop)]
 pub struct RpcCall<'a> {
     /// The call's number, which its reply repeats.
     pub xid: u32,

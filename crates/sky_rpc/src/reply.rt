@@ -57,7 +57,7 @@ const RPC_VERSION: u32 = 2;
 const PROGRAM_VERSION: u32 = 3;
 
 /// A reply, but for the results of a call that succeeded (`reply_body`, RFC 5531 section 9).
-#[derive(Clone, Copy, Debug, PartialEq, Eq)]
+#[derive(Clone, Copy)]
 pub enum ReplyBody {
     /// The call was done. So many bytes of results are in place, from byte `RESULTS_AT` of the buffer on.
     Success { results: usize },

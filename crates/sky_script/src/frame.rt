@@ -51,7 +51,7 @@ impl Frame<'_> {
 }
 
 /// What the proxy has, as numbers.
-#[derive(Clone, Copy, Debug, PartialEq, Eq)]
+#[derive(Clone, Copy)]
 pub struct Stats {
     /// The history's length: how many changes it has.
     pub history: u64,

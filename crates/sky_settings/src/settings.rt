@@ -7,7 +7,7 @@ ghost use Rattle.sky_settings.specs.Settings.{IsInRange, IsWithin};
 use std::marker::Model;
 
 /// A number for each setting, in whatever range.
-#[derive(Clone, Copy, Debug, PartialEq, Eq)]
+#[derive(Clone, Copy)]
 pub struct Fields {
     /// The number of the volume: 1 to 2^62.
     pub volume: u64,
@@ -22,7 +22,7 @@ pub struct Fields {
 }
 
 /// The settings of a proxy, each of them in its range. Contracts see them as their numbers.
-#[derive(Clone, Copy, Debug, PartialEq, Eq)]
+#[derive(Clone, Copy)]
 pub struct Settings {
     fields: Fields,
 }

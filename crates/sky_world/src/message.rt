@@ -25,7 +25,7 @@ const MOUNT_PROGRAM: u32 = 100_005;
 const SERVED_VERSION: u32 = 3;
 
 /// What a record means.
-#[derive(Debug, Drop)]
+#[derive(Drop)]
 pub enum Message<'a> {
     /// The session is closed.
     Close,

@@ -1,7 +1,7 @@
 //! Why bytes could not be read, and why a value could not be written.
 
 /// What is wrong with the bytes that were to be read.
-#[derive(Clone, Copy, Debug, PartialEq, Eq)]
+#[derive(Clone, Copy)]
 pub enum XdrFault {
     /// The length of opaque data is above the caller's limit.
     TooLong,
@@ -17,5 +17,5 @@ pub enum XdrFault {
 }
 
 /// The value does not fit into what is left of the writer's buffer.
-#[derive(Clone, Copy, Debug, PartialEq, Eq)]
+#[derive(Clone, Copy)]
 pub struct NoRoom;
