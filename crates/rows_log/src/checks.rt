@@ -11,8 +11,7 @@ use sky_base::SegName;
 use sky_checkpoint::{Check, checkpoints_come_back, complete_run, last_check, next_run};
 use sky_outside::Held;
 use std::alloc::Global;
-use std::fmt;
-use std::io;
+use std::{fmt, io};
 
 /// What a row of checkpoints answers.
 pub fn answer(
@@ -104,12 +103,7 @@ impl fmt::Display for RunOrNone {
 
 /// `listing NUMBER NAMES..`: of the objects that are listed, the last checkpoint, the complete run above the number, and the run
 /// that comes next where that is the last one that was merged.
-pub fn listed(
-    rt: &impl Print,
-    alloc: Global,
-    row: &str,
-    args: &[&str],
-) -> Option<io::Result<()>> {
+pub fn listed(rt: &impl Print, alloc: Global, row: &str, args: &[&str]) -> Option<io::Result<()>> {
     let [word, names @ ..] = args else {
         return None;
     };

@@ -5,8 +5,7 @@ use crate::words::{location_of, name_of};
 use sky_base::{Dir, SegName};
 use sky_usage::Usage;
 use std::alloc::Global;
-use std::fmt;
-use std::io;
+use std::{fmt, io};
 
 /// How many names there are, and how many bytes are in use in each directory.
 #[derive(Clone, Copy)]
@@ -22,7 +21,11 @@ impl fmt::Display for State<'_> {
         };
         let proxy = usage.total(Dir::Proxy);
         let cleaner = usage.total(Dir::Cleaner);
-        write!(f, "{} names, {word}, proxy {proxy}, cleaner {cleaner}", usage.len())
+        write!(
+            f,
+            "{} names, {word}, proxy {proxy}, cleaner {cleaner}",
+            usage.len()
+        )
     }
 }
 

@@ -1,7 +1,6 @@
 //! Rows of bytes that are items or objects.
 
-ghost use Rattle.std.specs.Prelude.{◌<◌, IfOk};
-ghost use Rattle.sky_base.specs.Limits.{max_number};
+ghost use Rattle.std.specs.Prelude.{IfOk};
 ghost use Rattle.sky_item.specs.Items.{IsItem};
 
 use crate::bench::Kept;
@@ -70,12 +69,12 @@ fn change(alloc: Global, kept: &Kept, bytes: &mut [u8], args: &[&str]) -> Option
     let [at, word] = args else {
         return None;
     };
+    let at = size(at)?;
     let new = bytes_of(alloc, kept, word)?;
-    let mut at = size(at)?;
-    for byte in new {
-        *bytes.get_mut(at)? = byte;
-        at += 1;
+    if at > bytes.len() || new.len() > bytes.len() - at {
+        return None;
     }
+    bytes[at..at + new.len()].copy_from_slice(&new);
     Some(())
 }
 
@@ -87,6 +86,14 @@ pub fn item_of(alloc: Global, bytes: &[u8]) -> Result<Item, ItemFault>
         return Err(ItemFault::Memory);
     }
     read_item(alloc, bytes)
+}
+
+/// The items that an object is, or why it is none.
+fn items_of(alloc: Global, object: SegName, bytes: &[u8]) -> Result<Vec<Item>, ItemFault> {
+    if object.run >= 1 << 62 || object.seq >= 1 << 62 {
+        return Err(ItemFault::Memory);
+    }
+    read_segment(alloc, object, bytes)
 }
 
 /// Prints the item that bytes are, or what is wrong with them.
@@ -104,9 +111,8 @@ fn count(
     row: &str,
     object: SegName,
     bytes: &[u8],
-) -> io::Result<()>
-{
-    match read_segment(alloc, object, bytes) {
+) -> io::Result<()> {
+    match items_of(alloc, object, bytes) {
         Ok(items) => println!(rt; "{row} {} items", items.len()),
         Err(fault) => println!(rt; "{row} {}", Fault(fault)),
     }
@@ -119,9 +125,8 @@ fn items(
     row: &str,
     object: SegName,
     bytes: &[u8],
-) -> io::Result<()>
-{
-    match read_segment(alloc, object, bytes) {
+) -> io::Result<()> {
+    match items_of(alloc, object, bytes) {
         Ok(items) => lines(rt, row, &items),
         Err(fault) => println!(rt; "{row} {}", Fault(fault)),
     }
@@ -162,7 +167,12 @@ fn print_written(
     print!(rt; "{row} length {length} ")?;
     match written.and_then(|count| buffer.split_at_checked(count)) {
         Some((front, behind)) => {
-            println!(rt; "wrote {}: {} and behind it {}", front.len(), Bytes(front), Bytes(behind))
+            println!(rt;
+                "wrote {}: {} and behind it {}",
+                front.len(),
+                Bytes(front),
+                Bytes(behind)
+            )
         }
         None => println!(rt; "no room: {}", Bytes(buffer)),
     }
@@ -194,7 +204,7 @@ fn prefixes(
 /// From where on bytes are too short for an object, or for an item, if they are.
 fn short_from(alloc: Global, object: Option<SegName>, bytes: &[u8]) -> Option<u64> {
     let fault = match object {
-        Some(name) => read_segment(alloc, name, bytes).err(),
+        Some(name) => items_of(alloc, name, bytes).err(),
         None => item_of(alloc, bytes).err(),
     };
     match fault {

@@ -6,8 +6,7 @@ use crate::words::{bytes_of, location_of, name_of, number, small};
 use sky_base::{Cred, Damage, Dir, Gids, Name, SegName, Status, Text};
 use std::alloc::Global;
 use std::cmp::Ordering;
-use std::fmt;
-use std::io;
+use std::{fmt, io};
 
 /// The whole text of a name.
 #[derive(Clone, Copy)]
@@ -149,7 +148,10 @@ pub fn cred(rt: &impl Print, row: &str, args: &[&str]) -> Option<io::Result<()>>
         "not full"
     };
     let gids = cred.gids.as_slice();
-    Some(println!(rt; "{row} uid {} gid {} gids {gids:?} {word}", cred.uid, cred.gid))
+    Some(println!(rt;
+        "{row} uid {} gid {} gids {gids:?} {word}",
+        cred.uid, cred.gid
+    ))
 }
 
 /// The groups of these numbers, up to those that are kept.

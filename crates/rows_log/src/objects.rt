@@ -9,8 +9,7 @@ use crate::words::{bytes_of, name_of, number};
 use sky_item::Item;
 use sky_segment::{Builder, SegmentBytes};
 use std::alloc::Global;
-use std::fmt;
-use std::io;
+use std::{fmt, io};
 
 /// The most bytes of an object that a row prints.
 const PRINTED: usize = 1000;
@@ -75,7 +74,13 @@ fn with_item(
     let builder = bench.builder.as_mut()?;
     match what {
         "fits" => Some(fits(rt, row, builder, &item)),
-        "add" => add(rt, row, builder, &item, number(args.get(1).unwrap_or(&"1"))?),
+        "add" => add(
+            rt,
+            row,
+            builder,
+            &item,
+            number(args.get(1).unwrap_or(&"1"))?,
+        ),
         _ => None,
     }
 }

@@ -1,5 +1,7 @@
 //! Rows of pages of the map of inodes.
 
+ghost use Rattle.sky_item.specs.Items.{IsItem};
+
 use crate::bench::Bench;
 use crate::items::item_of;
 use crate::text::{Id, LinkOrNone, Shown};
@@ -8,9 +10,7 @@ use sky_base::ItemId;
 use sky_imap::{Page, page_of, pages_come_back};
 use sky_item::Item;
 use std::alloc::Global;
-use std::fmt;
-use std::io;
-use std::mem;
+use std::{fmt, io, mem};
 
 /// A page in short: its number, how many slots it has, and whether it has none.
 #[derive(Clone, Copy)]
@@ -74,7 +74,9 @@ fn begin(
 }
 
 /// Begins the page that an item is, or says which item was handed back.
-fn begin_as(rt: &impl Print, page: &mut Page, row: &str, item: Item) -> io::Result<()> {
+fn begin_as(rt: &impl Print, page: &mut Page, row: &str, item: Item) -> io::Result<()>
+    requires { IsItem item }
+{
     pages_come_back();
     match Page::of(item) {
         Ok(new) => {
@@ -106,7 +108,10 @@ fn print_around(rt: &impl Print, page: &Page, row: &str, fileid: u64) -> io::Res
     let slot = LinkOrNone(page.slot(fileid));
     let before = LinkOrNone(page.slot(fileid.wrapping_sub(Page::SLOTS)));
     let behind = LinkOrNone(page.slot(fileid.wrapping_add(Page::SLOTS)));
-    println!(rt; "{row} {}, slot {slot}, before {before}, behind {behind}", State(page))
+    println!(rt;
+        "{row} {}, slot {slot}, before {before}, behind {behind}",
+        State(page)
+    )
 }
 
 /// Prints the slots of fileids, a line each.

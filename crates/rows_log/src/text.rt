@@ -45,7 +45,13 @@ pub struct Place(pub Location);
 
 impl fmt::Display for Place {
     fn fmt<W: fmt::Write>(&self, f: &mut fmt::Formatter<W>) -> fmt::Result {
-        write!(f, "{} {} {}", ShortName(self.0.name()), self.0.offset, self.0.length)
+        write!(
+            f,
+            "{} {} {}",
+            ShortName(self.0.name()),
+            self.0.offset,
+            self.0.length
+        )
     }
 }
 
@@ -82,7 +88,12 @@ impl fmt::Display for Fault {
             ItemFault::Damage(Damage::Short { held }) => write!(f, "short, {held} held"),
             ItemFault::Damage(Damage::Form { at }) => write!(f, "form at {at}"),
             ItemFault::Damage(Damage::Digest { stored, computed }) => {
-                write!(f, "digest {} is {}", Bytes(&stored), Bytes(&computed))
+                write!(
+                    f,
+                    "digest {} is {}",
+                    Bytes(stored.as_slice()),
+                    Bytes(computed.as_slice())
+                )
             }
             ItemFault::Damage(Damage::Identity { wanted, found }) => {
                 write!(f, "identity {} is {}", Id(wanted), Id(found))
@@ -166,12 +177,21 @@ struct Fields(Attributes);
 impl fmt::Display for Fields {
     fn fmt<W: fmt::Write>(&self, f: &mut fmt::Formatter<W>) -> fmt::Result {
         let a = self.0;
-        write!(f, "mode {:o} nlink {} uid {} gid {}", a.mode, a.nlink, a.uid, a.gid)?;
+        write!(
+            f,
+            "mode {:o} nlink {} uid {} gid {}",
+            a.mode, a.nlink, a.uid, a.gid
+        )?;
         let times = a.times;
-        write!(f, " atime {} mtime {}", Time(times.atime), Time(times.mtime))?;
+        write!(
+            f,
+            " atime {} mtime {}",
+            Time(times.atime),
+            Time(times.mtime)
+        )?;
         write!(f, " ctime {} verifier ", Time(times.ctime))?;
         match a.verifier {
-            Some(kept) => write!(f, "{}", Bytes(&kept))?,
+            Some(kept) => write!(f, "{}", Bytes(kept.as_slice()))?,
             None => f.write_str("none")?,
         }
         write!(f, " fileid {}", a.fileid)
@@ -213,7 +233,11 @@ pub struct Checkpoint<'a> {
 impl fmt::Display for Checkpoint<'_> {
     fn fmt<W: fmt::Write>(&self, f: &mut fmt::Formatter<W>) -> fmt::Result {
         let [volume, covers, next, first, merged, epoch, seq] = self.numbers;
-        write!(f, "{} volume {volume} covers {covers} next {next}", Id(self.id))?;
+        write!(
+            f,
+            "{} volume {volume} covers {covers} next {next}",
+            Id(self.id)
+        )?;
         write!(f, " first {first} merged {merged} base {epoch} {seq}")?;
         write!(f, " pages{} touched", Numbered(self.pages))?;
         for fileid in self.touched.as_slice() {
