@@ -1,20 +1,21 @@
 //! What rows keep for the rows behind them.
 
-use crate::words::{Fault, bytes_of};
+use crate::words::bytes_of;
 use sky_imap::Page;
 use sky_segment::Builder;
 use sky_usage::Usage;
 use std::alloc::{AllocError, Global};
+use std::io;
 
 /// Bytes that a row keeps under its name.
-#[derive(Debug, Drop)]
+#[derive(Drop)]
 struct KeptRow {
     name: String,
     bytes: Vec<u8>,
 }
 
 /// The bytes that rows keep under their names.
-#[derive(Debug, Drop)]
+#[derive(Drop)]
 pub struct Kept {
     rows: Vec<KeptRow>,
 }
@@ -42,7 +43,7 @@ impl Kept {
 #[derive(Drop)]
 pub struct Bench {
     pub kept: Kept,
-    pub page: Option<Page>,
+    pub page: Page,
     pub builder: Option<Builder>,
     pub usage: Usage,
 }
@@ -54,7 +55,7 @@ impl Bench {
             kept: Kept {
                 rows: Vec::new(alloc),
             },
-            page: None,
+            page: Page::new(alloc, 0),
             builder: None,
             usage: Usage::new(alloc),
         }
@@ -62,26 +63,36 @@ impl Bench {
 }
 
 /// Keeps bytes under the row's name.
-pub fn keep(alloc: Global, kept: &mut Kept, name: &str, args: &[&str]) -> Result<String, Fault> {
+pub fn keep(
+    rt: &impl Print,
+    alloc: Global,
+    kept: &mut Kept,
+    name: &str,
+    args: &[&str],
+) -> Option<io::Result<()>> {
     let [word] = args else {
-        return Err(Fault::Row);
+        return None;
     };
     let bytes = bytes_of(alloc, kept, word)?;
     let count = bytes.len();
-    kept.put(alloc, name, bytes)?;
-    Ok(format!(in alloc; "{count} bytes")?)
+    kept.put(alloc, name, bytes).ok()?;
+    Some(println!(rt; "{name} {count} bytes"))
 }
 
 /// Whether bytes are the same.
-pub fn same(alloc: Global, kept: &Kept, args: &[&str]) -> Result<String, Fault> {
+pub fn same(
+    rt: &impl Print,
+    alloc: Global,
+    kept: &Kept,
+    name: &str,
+    args: &[&str],
+) -> Option<io::Result<()>> {
     let [one, other] = args else {
-        return Err(Fault::Row);
+        return None;
     };
     let one = bytes_of(alloc, kept, one)?;
-    let other = bytes_of(alloc, kept, other)?;
-    if one != other {
-        return Ok(format!(in alloc; "not the same")?);
+    if one != bytes_of(alloc, kept, other)? {
+        return Some(println!(rt; "{name} not the same"));
     }
-    let count = one.len();
-    Ok(format!(in alloc; "the same {count} bytes")?)
+    Some(println!(rt; "{name} the same {} bytes", one.len()))
 }

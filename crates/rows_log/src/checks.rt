@@ -1,134 +1,131 @@
 //! Rows of checkpoints, and of what the names of objects say of them.
 
-ghost use Rattle.std.specs.Prelude.{◌<◌, All, IfOk};
+ghost use Rattle.std.specs.Prelude.{◌<◌, All, IfSome};
 ghost use Rattle.sky_base.specs.Limits.{max_number};
 
 use crate::bench::Kept;
 use crate::items::item_of;
-use crate::objects::push_line;
-use crate::pages::handed_back;
-use crate::text;
-use crate::words::{Fault, bytes_of, name_of, number};
+use crate::text::{Checkpoint, LinkOrNone, ShortName, Shown};
+use crate::words::{bytes_of, name_of, number};
+use sky_base::SegName;
 use sky_checkpoint::{Check, checkpoints_come_back, complete_run, last_check, next_run};
-use sky_item::Item;
 use sky_outside::Held;
-use std::alloc::{AllocError, Global};
+use std::alloc::Global;
+use std::{fmt, io};
 
 /// What a row of checkpoints answers.
-pub fn answer(alloc: Global, kept: &Kept, args: &[&str]) -> Result<String, Fault> {
-    match args {
-        ["of", word] => read(alloc, &bytes_of(alloc, kept, word)?),
-        ["pages", word, numbers @ ..] => pages(alloc, &bytes_of(alloc, kept, word)?, numbers),
-        ["back", word] => back(alloc, &bytes_of(alloc, kept, word)?),
-        _ => Err(Fault::Row),
-    }
-}
-
-/// The checkpoint that bytes are, or the item that they are else.
-fn check_of_bytes(alloc: Global, bytes: &[u8]) -> Result<Result<Check, Item>, Fault> {
-    let item = item_of(alloc, bytes)?;
+pub fn answer(
+    rt: &impl Print,
+    alloc: Global,
+    kept: &Kept,
+    row: &str,
+    args: &[&str],
+) -> Option<io::Result<()>> {
+    let [what, word, numbers @ ..] = args else {
+        return None;
+    };
+    let item = item_of(alloc, &bytes_of(alloc, kept, word)?).ok()?;
     checkpoints_come_back();
-    Ok(Check::of(item))
-}
-
-/// The checkpoint that bytes are, with all of its fields.
-fn read(alloc: Global, bytes: &[u8]) -> Result<String, Fault> {
-    match check_of_bytes(alloc, bytes)? {
-        Ok(check) => Ok(fields(alloc, &check)?),
-        Err(item) => handed_back(alloc, &item),
+    match Check::of(item) {
+        Ok(check) => print_check(rt, row, what, check, numbers),
+        Err(item) => Some(println!(rt; "{row} handed back: {}", Shown(&item))),
     }
 }
 
-/// The fields of a checkpoint.
-fn fields(alloc: Global, check: &Check) -> Result<String, AllocError> {
-    let id = text::id(alloc, check.id)?;
-    let numbers = numbers(alloc, check)?;
-    let pages = text::numbered(alloc, check.pages.as_slice())?;
-    let touched = text::fileids(alloc, &check.touched)?;
-    format!(in alloc; "{id} {numbers} pages{pages} touched{touched}")
+/// Prints a checkpoint with all of its fields, or where the pages of these numbers lie, or the item that it is again.
+fn print_check(
+    rt: &impl Print,
+    row: &str,
+    what: &str,
+    check: Check,
+    numbers: &[&str],
+) -> Option<io::Result<()>> {
+    match what {
+        "of" => Some(print_fields(rt, row, &check)),
+        "pages" => pages(rt, row, &check, numbers),
+        "back" => Some(println!(rt; "{row} {}", Shown(&check.into_item()))),
+        _ => None,
+    }
 }
 
-/// The numbers of a checkpoint.
-fn numbers(alloc: Global, check: &Check) -> Result<String, AllocError> {
-    let mut text = String::new(alloc);
-    text::push_number(&mut text, "volume", check.volume)?;
-    text::push_number(&mut text, " covers", check.covers)?;
-    text::push_number(&mut text, " next", check.next_fileid)?;
-    text::push_number(&mut text, " first", check.first_seq)?;
-    text::push_number(&mut text, " merged", check.merged)?;
-    text::push_number(&mut text, " base", check.base_epoch)?;
-    text::push_number(&mut text, "", check.base_seq)?;
-    Ok(text)
-}
-
-/// Where the pages of these numbers lie, a line each.
-fn pages(alloc: Global, bytes: &[u8], numbers: &[&str]) -> Result<String, Fault> {
-    let Ok(check) = check_of_bytes(alloc, bytes)? else {
-        return Err(Fault::Row);
+/// Prints the fields of a checkpoint.
+fn print_fields(rt: &impl Print, row: &str, check: &Check) -> io::Result<()> {
+    let fields = Checkpoint {
+        id: check.id,
+        numbers: [
+            check.volume,
+            check.covers,
+            check.next_fileid,
+            check.first_seq,
+            check.merged,
+            check.base_epoch,
+            check.base_seq,
+        ],
+        pages: check.pages.as_slice(),
+        touched: &check.touched,
     };
-    let mut text = String::new(alloc);
+    println!(rt; "{row} {fields}")
+}
+
+/// Prints where the pages of these numbers lie, a line each.
+fn pages(rt: &impl Print, row: &str, check: &Check, numbers: &[&str]) -> Option<io::Result<()>> {
+    let mut done = Ok(());
     for word in numbers {
-        let line = page(alloc, &check, number(word)?)?;
-        push_line(&mut text, line.as_str())?;
+        let number = number(word)?;
+        done = println!(rt; "{row} {number}: {}", LinkOrNone(check.page(number)));
     }
-    Ok(text)
+    Some(done)
 }
 
-/// Where the page of a number lies.
-fn page(alloc: Global, check: &Check, number: u64) -> Result<String, AllocError> {
-    let page = text::link_or_none(alloc, check.page(number))?;
-    format!(in alloc; "{number}: {page}")
+#[derive(Clone, Copy)]
+struct NameOrNone(Option<SegName>);
+
+impl fmt::Display for NameOrNone {
+    fn fmt<W: fmt::Write>(&self, f: &mut fmt::Formatter<W>) -> fmt::Result {
+        match self.0 {
+            Some(name) => write!(f, "{}", ShortName(name)),
+            None => f.write_str("none"),
+        }
+    }
 }
 
-/// The item that the checkpoint of these bytes is again.
-fn back(alloc: Global, bytes: &[u8]) -> Result<String, Fault> {
-    let Ok(check) = check_of_bytes(alloc, bytes)? else {
-        return Err(Fault::Row);
-    };
-    Ok(text::item(alloc, &check.into_item())?)
+#[derive(Clone, Copy)]
+struct RunOrNone(Option<u64>);
+
+impl fmt::Display for RunOrNone {
+    fn fmt<W: fmt::Write>(&self, f: &mut fmt::Formatter<W>) -> fmt::Result {
+        match self.0 {
+            Some(run) => write!(f, "{run}"),
+            None => f.write_str("none"),
+        }
+    }
 }
 
 /// `listing NUMBER NAMES..`: of the objects that are listed, the last checkpoint, the complete run above the number, and the run
 /// that comes next where that is the last one that was merged.
-pub fn listed(alloc: Global, args: &[&str]) -> Result<String, Fault> {
+pub fn listed(rt: &impl Print, alloc: Global, row: &str, args: &[&str]) -> Option<io::Result<()>> {
     let [word, names @ ..] = args else {
-        return Err(Fault::Row);
+        return None;
     };
     let above = number(word)?;
     let listed = listing(alloc, names)?;
-    let last = last(alloc, &listed)?;
-    let complete = complete(alloc, &listed, above)?;
+    let last = NameOrNone(last_check(&listed));
+    let complete = RunOrNone(complete_run(&listed, above));
     if above >= 1 << 62 {
-        return Ok(format!(in alloc; "last {last}, complete {complete}")?);
+        return Some(println!(rt; "{row} last {last}, complete {complete}"));
     }
     let next = next_run(&listed, above);
-    Ok(format!(in alloc; "last {last}, complete {complete}, next {next}")?)
+    Some(println!(rt; "{row} last {last}, complete {complete}, next {next}"))
 }
 
 /// The listing of these names.
-fn listing(alloc: Global, names: &[&str]) -> Result<Vec<Held>, Fault>
-    ensures { IfOk result (λ listed. All (λ h. h.name.run < max_number) listed.items) }
+fn listing(alloc: Global, names: &[&str]) -> Option<Vec<Held>>
+    ensures { IfSome result (λ listed. All (λ h. h.name.run < max_number) listed.items) }
 {
     let mut listed = Vec::new(alloc);
     for word in names {
         let name = name_of(word)?;
-        listed.push(Held { name, length: 36 })?;
+        listed.push(Held { name, length: 36 }).ok()?;
     }
-    Ok(listed)
-}
-
-/// The last checkpoint of a listing.
-fn last(alloc: Global, listed: &[Held]) -> Result<String, AllocError> {
-    match last_check(listed) {
-        Some(name) => text::name(alloc, name),
-        None => String::from_str(alloc, "none"),
-    }
-}
-
-/// The complete run of a listing above a number.
-fn complete(alloc: Global, listed: &[Held], above: u64) -> Result<String, AllocError> {
-    match complete_run(listed, above) {
-        Some(run) => format!(in alloc; "{run}"),
-        None => String::from_str(alloc, "none"),
-    }
+    Some(listed)
 }

@@ -15,68 +15,57 @@ mod words;
 use bench::Bench;
 use std::alloc::Global;
 use std::io;
-use words::Fault;
 
-/// What a row answers, by the word of what it is about.
+/// Prints what a row answers, each line behind the row's name. `None` where its words can't be read.
 fn answer(
+    rt: &impl Print,
     alloc: Global,
     bench: &mut Bench,
     name: &str,
     subject: &str,
     args: &[&str],
-) -> Result<String, Fault> {
+) -> Option<io::Result<()>> {
     match subject {
-        "keep" => bench::keep(alloc, &mut bench.kept, name, args),
-        "same" => bench::same(alloc, &bench.kept, args),
-        "name" => names::name(alloc, args),
-        "order" => names::order(alloc, args),
-        "status" => names::status(alloc, args),
-        "text" => names::text(alloc, args),
-        "entry" => names::entry(alloc, &bench.kept, args),
-        "cred" => names::cred(alloc, args),
-        "place" => names::place(alloc, args),
-        "item" => items::answer(alloc, &bench.kept, args),
-        "object" => objects::answer(alloc, &bench.kept, args),
-        "build" => objects::build(alloc, bench, name, args),
-        "page" => pages::answer(alloc, bench, args),
-        "check" => checks::answer(alloc, &bench.kept, args),
-        "listing" => checks::listed(alloc, args),
-        "usage" => counts::answer(alloc, &mut bench.usage, args),
-        _ => Err(Fault::Row),
-    }
-}
-
-/// Prints what a row answers, each line behind the row's name.
-fn print(rt: &impl Print, name: &str, answered: Result<String, Fault>) -> io::Result<()> {
-    match answered {
-        Ok(text) => {
-            for line in text.as_str().lines() {
-                println!(rt; "{name} {line}")?;
-            }
-            Ok(())
-        }
-        Err(Fault::Row) => println!(rt; "{name} cannot read this row"),
-        Err(Fault::Memory) => println!(rt; "{name} finds no memory"),
+        "keep" => bench::keep(rt, alloc, &mut bench.kept, name, args),
+        "same" => bench::same(rt, alloc, &bench.kept, name, args),
+        "name" => names::name(rt, name, args),
+        "order" => names::order(rt, name, args),
+        "status" => names::status(rt, name, args),
+        "text" => Some(names::text(rt, alloc, name, args)),
+        "entry" => names::entry(rt, alloc, &bench.kept, name, args),
+        "cred" => names::cred(rt, name, args),
+        "place" => names::place(rt, name, args),
+        "item" => items::item(rt, alloc, &bench.kept, name, args),
+        "object" => items::object(rt, alloc, &bench.kept, name, args),
+        "build" => objects::build(rt, alloc, bench, name, args),
+        "page" => pages::answer(rt, alloc, bench, name, args),
+        "check" => checks::answer(rt, alloc, &bench.kept, name, args),
+        "listing" => checks::listed(rt, alloc, name, args),
+        "usage" => counts::answer(rt, alloc, &mut bench.usage, name, args),
+        _ => None,
     }
 }
 
 /// Answers a line. Empty ones and headings are passed over.
-fn answer_line(rt: &(impl Print + AllocGlobal), bench: &mut Bench, line: &str) -> io::Result<()> {
-    let alloc = rt.alloc();
+fn answer_line(rt: &impl Print, alloc: Global, bench: &mut Bench, line: &str) -> io::Result<()> {
     if line.is_empty() || line.starts_with('#') {
         return Ok(());
     }
     let words: Vec<&str> = line.split_whitespace().collect(alloc)?;
     match words.as_slice() {
-        [name, subject, args @ ..] => print(rt, name, answer(alloc, bench, name, subject, args)),
+        [name, subject, args @ ..] => match answer(rt, alloc, bench, name, subject, args) {
+            Some(done) => done,
+            None => println!(rt; "{name} cannot read this row"),
+        },
         _ => println!(rt; "{line} cannot read this row"),
     }
 }
 
 fn main(rt: HostRuntime) -> io::Result<()> {
-    let mut bench = Bench::new(rt.alloc());
-    for line in rt.lines(rt.alloc()) {
-        answer_line(&rt, &mut bench, line?.as_str())?;
+    let alloc = rt.alloc();
+    let mut bench = Bench::new(alloc);
+    for line in rt.lines(alloc) {
+        answer_line(&rt, alloc, &mut bench, line?.as_str())?;
     }
     Ok(())
 }

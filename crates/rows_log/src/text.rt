@@ -1,274 +1,248 @@
 //! Values of the log as text.
 
-use sky_base::{Damage, Dir, ItemId, Link, Location, Name, SegName};
-use sky_item::{
-    Attributes, BlockItem, CheckItem, Content, Fileids, InodeItem, Item, ItemFault, NumberedLink,
-    PageItem,
-};
-use std::alloc::{AllocError, Global};
+use sky_base::{Damage, Dir, ItemId, Link, Location, Moment, SegName};
+use sky_item::{Attributes, Content, Fileids, InodeItem, Item, ItemFault, NumberedLink};
+use std::fmt;
 
 /// Bytes in hexadecimal digits, `-` where there are none, and more than 32 of one value in short, as in `07*40`.
-pub fn bytes(alloc: Global, bytes: &[u8]) -> Result<String, AllocError> {
-    let Some(first) = bytes.first() else {
-        return String::from_str(alloc, "-");
-    };
-    if bytes.len() > 32 && bytes.iter().all(|byte| *byte == *first) {
-        let count = bytes.len();
-        return format!(in alloc; "{first:02x}*{count}");
-    }
-    hex::encode(alloc, bytes)
-}
+#[derive(Clone, Copy)]
+pub struct Bytes<'a>(pub &'a [u8]);
 
-/// The letter of a directory.
-fn letter(dir: Dir) -> char {
-    match dir {
-        Dir::Proxy => 'p',
-        Dir::Cleaner => 'c',
+impl fmt::Display for Bytes<'_> {
+    fn fmt<W: fmt::Write>(&self, f: &mut fmt::Formatter<W>) -> fmt::Result {
+        let bytes = self.0;
+        let Some(first) = bytes.first() else {
+            return f.write_str("-");
+        };
+        if bytes.len() > 32 && bytes.iter().all(|byte| *byte == *first) {
+            return write!(f, "{first:02x}*{}", bytes.len());
+        }
+        for byte in bytes {
+            write!(f, "{byte:02x}")?;
+        }
+        Ok(())
     }
 }
 
 /// The name of an object, in short: its directory, run and number, and `s` or `k`.
-pub fn name(alloc: Global, name: SegName) -> Result<String, AllocError> {
-    let dir = letter(name.dir);
-    let kind = if name.last { 'k' } else { 's' };
-    let run = name.run;
-    let seq = name.seq;
-    format!(in alloc; "{dir}/{run}/{seq}.{kind}")
-}
+#[derive(Clone, Copy)]
+pub struct ShortName(pub SegName);
 
-/// A place: the segment, the offset in it and the length.
-pub fn location(alloc: Global, at: Location) -> Result<String, AllocError> {
-    let segment = name(alloc, at.name())?;
-    let offset = at.offset;
-    let length = at.length;
-    format!(in alloc; "{segment} {offset} {length}")
-}
-
-/// An identifier: its epoch and its counter.
-pub fn id(alloc: Global, id: ItemId) -> Result<String, AllocError> {
-    let epoch = id.epoch;
-    let counter = id.counter;
-    format!(in alloc; "{epoch}.{counter}")
-}
-
-/// An identifier and a place.
-pub fn link(alloc: Global, link: Link) -> Result<String, AllocError> {
-    let id = id(alloc, link.id)?;
-    let at = location(alloc, link.at)?;
-    format!(in alloc; "{id} {at}")
-}
-
-/// A link, if there is one.
-pub fn link_or_none(alloc: Global, found: Option<Link>) -> Result<String, AllocError> {
-    match found {
-        Some(found) => link(alloc, found),
-        None => String::from_str(alloc, "none"),
+impl fmt::Display for ShortName {
+    fn fmt<W: fmt::Write>(&self, f: &mut fmt::Formatter<W>) -> fmt::Result {
+        let dir = match self.0.dir {
+            Dir::Proxy => 'p',
+            Dir::Cleaner => 'c',
+        };
+        let kind = if self.0.last { 'k' } else { 's' };
+        write!(f, "{dir}/{}/{}.{kind}", self.0.run, self.0.seq)
     }
 }
 
-/// What is wrong with bytes.
-pub fn damage(alloc: Global, damage: Damage) -> Result<String, AllocError> {
-    match damage {
-        Damage::Short { held } => format!(in alloc; "short, {held} held"),
-        Damage::Form { at } => format!(in alloc; "form at {at}"),
-        Damage::Digest { stored, computed } => {
-            let stored = hex::encode(alloc, &stored)?;
-            let computed = hex::encode(alloc, &computed)?;
-            format!(in alloc; "digest {stored} is {computed}")
-        }
-        Damage::Identity { wanted, found } => {
-            let wanted = id(alloc, wanted)?;
-            let found = id(alloc, found)?;
-            format!(in alloc; "identity {wanted} is {found}")
+/// A place: the segment, the offset in it and the length.
+#[derive(Clone, Copy)]
+pub struct Place(pub Location);
+
+impl fmt::Display for Place {
+    fn fmt<W: fmt::Write>(&self, f: &mut fmt::Formatter<W>) -> fmt::Result {
+        write!(
+            f,
+            "{} {} {}",
+            ShortName(self.0.name()),
+            self.0.offset,
+            self.0.length
+        )
+    }
+}
+
+/// An identifier: its epoch and its counter.
+#[derive(Clone, Copy)]
+pub struct Id(pub ItemId);
+
+impl fmt::Display for Id {
+    fn fmt<W: fmt::Write>(&self, f: &mut fmt::Formatter<W>) -> fmt::Result {
+        write!(f, "{}.{}", self.0.epoch, self.0.counter)
+    }
+}
+
+/// An identifier and a place, if there is one.
+#[derive(Clone, Copy)]
+pub struct LinkOrNone(pub Option<Link>);
+
+impl fmt::Display for LinkOrNone {
+    fn fmt<W: fmt::Write>(&self, f: &mut fmt::Formatter<W>) -> fmt::Result {
+        match self.0 {
+            Some(link) => write!(f, "{} {}", Id(link.id), Place(link.at)),
+            None => f.write_str("none"),
         }
     }
 }
 
 /// Why no item was read.
-pub fn fault(alloc: Global, fault: ItemFault) -> Result<String, AllocError> {
-    match fault {
-        ItemFault::Damage(wrong) => damage(alloc, wrong),
-        ItemFault::Memory => String::from_str(alloc, "no memory"),
+#[derive(Clone, Copy)]
+pub struct Fault(pub ItemFault);
+
+impl fmt::Display for Fault {
+    fn fmt<W: fmt::Write>(&self, f: &mut fmt::Formatter<W>) -> fmt::Result {
+        match self.0 {
+            ItemFault::Damage(Damage::Short { held }) => write!(f, "short, {held} held"),
+            ItemFault::Damage(Damage::Form { at }) => write!(f, "form at {at}"),
+            ItemFault::Damage(Damage::Digest { stored, computed }) => {
+                write!(
+                    f,
+                    "digest {} is {}",
+                    Bytes(stored.as_slice()),
+                    Bytes(computed.as_slice())
+                )
+            }
+            ItemFault::Damage(Damage::Identity { wanted, found }) => {
+                write!(f, "identity {} is {}", Id(wanted), Id(found))
+            }
+            ItemFault::Memory => f.write_str("no memory"),
+        }
     }
 }
 
 /// An item, with all of its fields.
-pub fn item(alloc: Global, item: &Item) -> Result<String, AllocError> {
-    match item {
-        Item::Block(it) => block(alloc, it),
-        Item::Inode(it) => inode(alloc, it),
-        Item::Page(it) => page(alloc, it),
-        Item::Check(it) => check(alloc, it),
+#[derive(Clone, Copy)]
+pub struct Shown<'a>(pub &'a Item);
+
+impl fmt::Display for Shown<'_> {
+    fn fmt<W: fmt::Write>(&self, f: &mut fmt::Formatter<W>) -> fmt::Result {
+        match self.0 {
+            Item::Block(it) => write!(f, "block {} {}", Id(it.id), Bytes(it.bytes.as_slice())),
+            Item::Inode(it) => write!(f, "inode {}", Inode(it)),
+            Item::Page(it) => {
+                let slots = Numbered(it.slots.as_slice());
+                write!(f, "page {} number {}{slots}", Id(it.id), it.number)
+            }
+            Item::Check(it) => {
+                let fields = Checkpoint {
+                    id: it.id,
+                    numbers: [
+                        it.volume,
+                        it.covers,
+                        it.next_fileid,
+                        it.first_seq,
+                        it.merged,
+                        it.base_epoch,
+                        it.base_seq,
+                    ],
+                    pages: it.pages.as_slice(),
+                    touched: &it.touched,
+                };
+                write!(f, "checkpoint {fields}")
+            }
+        }
     }
 }
 
-fn block(alloc: Global, block: &BlockItem) -> Result<String, AllocError> {
-    let id = id(alloc, block.id)?;
-    let bytes = bytes(alloc, block.bytes.as_slice())?;
-    format!(in alloc; "block {id} {bytes}")
-}
+/// An inode, and behind it the parts of what the node holds.
+#[derive(Clone, Copy)]
+struct Inode<'a>(&'a InodeItem);
 
-fn inode(alloc: Global, inode: &InodeItem) -> Result<String, AllocError> {
-    let id = id(alloc, inode.id)?;
-    let attributes = attributes(alloc, &inode.attributes)?;
-    let content = content(alloc, &inode.content)?;
-    format!(in alloc; "inode {id} {attributes} {content}")
+impl fmt::Display for Inode<'_> {
+    fn fmt<W: fmt::Write>(&self, f: &mut fmt::Formatter<W>) -> fmt::Result {
+        write!(f, "{} {} ", Id(self.0.id), Fields(self.0.attributes))?;
+        match &self.0.content {
+            Content::Regular { size, blocks } => {
+                write!(f, "file of {size}")?;
+                for block in blocks.as_slice() {
+                    write!(f, " [{}]", LinkOrNone(*block))?;
+                }
+                Ok(())
+            }
+            Content::Directory {
+                parent,
+                next_cookie,
+                rows,
+            } => {
+                write!(f, "directory in {parent} next {next_cookie}")?;
+                for (cookie, name, fileid) in rows.as_slice() {
+                    write!(f, " [{cookie} {fileid} {}]", Bytes(name.as_bytes()))?;
+                }
+                Ok(())
+            }
+            Content::SymbolicLink { text } => {
+                write!(f, "symbolic link {}", Bytes(text.as_slice()))
+            }
+        }
+    }
 }
 
 /// The attributes: the mode in octal, and each moment as its seconds, a dot and its nanoseconds.
-fn attributes(alloc: Global, a: &Attributes) -> Result<String, AllocError> {
-    let times = times(alloc, a)?;
-    let verifier = match &a.verifier {
-        Some(kept) => hex::encode(alloc, kept)?,
-        None => String::from_str(alloc, "none")?,
-    };
-    let owner = owner(alloc, a)?;
-    let fileid = a.fileid;
-    format!(in alloc; "{owner} {times} verifier {verifier} fileid {fileid}")
-}
+#[derive(Clone, Copy)]
+struct Fields(Attributes);
 
-fn owner(alloc: Global, a: &Attributes) -> Result<String, AllocError> {
-    let mode = a.mode;
-    let nlink = a.nlink;
-    let uid = a.uid;
-    let gid = a.gid;
-    format!(in alloc; "mode {mode:o} nlink {nlink} uid {uid} gid {gid}")
-}
-
-fn times(alloc: Global, a: &Attributes) -> Result<String, AllocError> {
-    let mut text = String::new(alloc);
-    push_moment(
-        &mut text,
-        "atime ",
-        a.times.atime.seconds,
-        a.times.atime.nanos,
-    )?;
-    push_moment(
-        &mut text,
-        " mtime ",
-        a.times.mtime.seconds,
-        a.times.mtime.nanos,
-    )?;
-    push_moment(
-        &mut text,
-        " ctime ",
-        a.times.ctime.seconds,
-        a.times.ctime.nanos,
-    )?;
-    Ok(text)
-}
-
-fn push_moment(text: &mut String, word: &str, seconds: u32, nanos: u32) -> Result<(), AllocError> {
-    write!(text, "{word}{seconds}.{nanos}")
-}
-
-fn content(alloc: Global, content: &Content) -> Result<String, AllocError> {
-    match content {
-        Content::Regular { size, blocks } => {
-            let blocks = links(alloc, blocks.as_slice())?;
-            format!(in alloc; "file of {size}{blocks}")
+impl fmt::Display for Fields {
+    fn fmt<W: fmt::Write>(&self, f: &mut fmt::Formatter<W>) -> fmt::Result {
+        let a = self.0;
+        write!(
+            f,
+            "mode {:o} nlink {} uid {} gid {}",
+            a.mode, a.nlink, a.uid, a.gid
+        )?;
+        let times = a.times;
+        write!(
+            f,
+            " atime {} mtime {}",
+            Time(times.atime),
+            Time(times.mtime)
+        )?;
+        write!(f, " ctime {} verifier ", Time(times.ctime))?;
+        match a.verifier {
+            Some(kept) => write!(f, "{}", Bytes(kept.as_slice()))?,
+            None => f.write_str("none")?,
         }
-        Content::Directory {
-            parent,
-            next_cookie,
-            rows,
-        } => {
-            let rows = entries(alloc, rows.as_slice())?;
-            format!(in alloc; "directory in {parent} next {next_cookie}{rows}")
+        write!(f, " fileid {}", a.fileid)
+    }
+}
+
+#[derive(Clone, Copy)]
+struct Time(Moment);
+
+impl fmt::Display for Time {
+    fn fmt<W: fmt::Write>(&self, f: &mut fmt::Formatter<W>) -> fmt::Result {
+        write!(f, "{}.{}", self.0.seconds, self.0.nanos)
+    }
+}
+
+/// Links with their numbers.
+#[derive(Clone, Copy)]
+struct Numbered<'a>(&'a [NumberedLink]);
+
+impl fmt::Display for Numbered<'_> {
+    fn fmt<W: fmt::Write>(&self, f: &mut fmt::Formatter<W>) -> fmt::Result {
+        for it in self.0 {
+            write!(f, " [{} {}]", it.number, LinkOrNone(Some(it.link)))?;
         }
-        Content::SymbolicLink { text } => {
-            let text = bytes(alloc, text.as_slice())?;
-            format!(in alloc; "symbolic link {text}")
+        Ok(())
+    }
+}
+
+/// A checkpoint.
+#[derive(Clone, Copy)]
+pub struct Checkpoint<'a> {
+    pub id: ItemId,
+    /// The volume, what it covers, the next fileid, the first number, the last merged run, and the epoch and number of the base.
+    pub numbers: [u64; 7],
+    pub pages: &'a [NumberedLink],
+    pub touched: &'a Fileids,
+}
+
+impl fmt::Display for Checkpoint<'_> {
+    fn fmt<W: fmt::Write>(&self, f: &mut fmt::Formatter<W>) -> fmt::Result {
+        let [volume, covers, next, first, merged, epoch, seq] = self.numbers;
+        write!(
+            f,
+            "{} volume {volume} covers {covers} next {next}",
+            Id(self.id)
+        )?;
+        write!(f, " first {first} merged {merged} base {epoch} {seq}")?;
+        write!(f, " pages{} touched", Numbered(self.pages))?;
+        for fileid in self.touched.as_slice() {
+            write!(f, " [{fileid}]")?;
         }
+        Ok(())
     }
-}
-
-fn links(alloc: Global, blocks: &[Option<Link>]) -> Result<String, AllocError> {
-    let mut text = String::new(alloc);
-    for block in blocks {
-        let block = link_or_none(alloc, *block)?;
-        push_entry(&mut text, block.as_str())?;
-    }
-    Ok(text)
-}
-
-/// Adds a part of a list.
-fn push_entry(text: &mut String, entry: &str) -> Result<(), AllocError> {
-    write!(text, " [{entry}]")
-}
-
-fn entries(alloc: Global, rows: &[(u64, Name, u64)]) -> Result<String, AllocError> {
-    let mut text = String::new(alloc);
-    for row in rows {
-        let row = entry(alloc, row)?;
-        push_entry(&mut text, row.as_str())?;
-    }
-    Ok(text)
-}
-
-/// The cookie of an entry, the fileid that it names, and its name.
-fn entry(alloc: Global, row: &(u64, Name, u64)) -> Result<String, AllocError> {
-    let cookie = row.0;
-    let name = bytes(alloc, row.1.as_bytes())?;
-    let fileid = row.2;
-    format!(in alloc; "{cookie} {fileid} {name}")
-}
-
-pub fn numbered(alloc: Global, links: &[NumberedLink]) -> Result<String, AllocError> {
-    let mut text = String::new(alloc);
-    for it in links {
-        let row = one_numbered(alloc, *it)?;
-        push_entry(&mut text, row.as_str())?;
-    }
-    Ok(text)
-}
-
-fn one_numbered(alloc: Global, it: NumberedLink) -> Result<String, AllocError> {
-    let number = it.number;
-    let link = link(alloc, it.link)?;
-    format!(in alloc; "{number} {link}")
-}
-
-fn page(alloc: Global, page: &PageItem) -> Result<String, AllocError> {
-    let id = id(alloc, page.id)?;
-    let number = page.number;
-    let slots = numbered(alloc, page.slots.as_slice())?;
-    format!(in alloc; "page {id} number {number}{slots}")
-}
-
-fn check(alloc: Global, check: &CheckItem) -> Result<String, AllocError> {
-    let id = id(alloc, check.id)?;
-    let numbers = check_numbers(alloc, check)?;
-    let pages = numbered(alloc, check.pages.as_slice())?;
-    let touched = fileids(alloc, &check.touched)?;
-    format!(in alloc; "checkpoint {id} {numbers} pages{pages} touched{touched}")
-}
-
-fn check_numbers(alloc: Global, check: &CheckItem) -> Result<String, AllocError> {
-    let mut text = String::new(alloc);
-    push_number(&mut text, "volume", check.volume)?;
-    push_number(&mut text, " covers", check.covers)?;
-    push_number(&mut text, " next", check.next_fileid)?;
-    push_number(&mut text, " first", check.first_seq)?;
-    push_number(&mut text, " merged", check.merged)?;
-    push_number(&mut text, " base", check.base_epoch)?;
-    push_number(&mut text, "", check.base_seq)?;
-    Ok(text)
-}
-
-/// Adds a number behind its word.
-pub fn push_number(text: &mut String, word: &str, number: u64) -> Result<(), AllocError> {
-    write!(text, "{word} {number}")
-}
-
-pub fn fileids(alloc: Global, ids: &Fileids) -> Result<String, AllocError> {
-    let mut text = String::new(alloc);
-    for fileid in ids.as_slice() {
-        push_fileid(&mut text, *fileid)?;
-    }
-    Ok(text)
-}
-
-fn push_fileid(text: &mut String, fileid: u64) -> Result<(), AllocError> {
-    write!(text, " [{fileid}]")
 }
