@@ -7,3 +7,4 @@ pub mod ResultsOnce
 pub mod PagesOnce
 pub mod AnswersOnce
 pub mod Known
+pub mod AnswerSizes
