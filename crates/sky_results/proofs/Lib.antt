@@ -7,4 +7,3 @@ pub mod ResultsOnce
 pub mod PagesOnce
 pub mod AnswersOnce
 pub mod Known
-pub mod AnswerSizes

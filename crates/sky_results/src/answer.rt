@@ -24,7 +24,7 @@ use sky_nfs::Answer;
 use sky_xdr::{NoRoom, Writer};
 
 /// How many bytes an answer has in XDR.
-#[tactic(auto, using(crate::proofs::AnswerSizes::answer_sizes), unfolding(crate::specs::Answers::answer_bytes))]
+#[tactic(auto, using(crate::proofs::Sizes::sizes), unfolding(crate::specs::Answers::answer_bytes))]
 pub fn answer_length(answer: &Answer) -> usize
     requires { length (answer_bytes answer.now) < 2 ^ 64 }
     ensures { result ≡ length (answer_bytes answer.now) }
