@@ -91,7 +91,7 @@ pub fn is_encodable(answer: &Answer) -> bool
 }
 
 /// Writes an answer.
-#[tactic(auto, using(crate::proofs::Sizes::sizes), unfolding(crate::specs::Answers::answer_bytes))]
+#[tactic(auto, unfolding(crate::specs::Answers::answer_bytes))]
 fn put_answer(writer: &mut Writer<'_>, answer: &Answer) -> Result<(), NoRoom>
     requires { length (answer_bytes answer.now) < 2 ^ 32 }
     ensures fits { length (answer_bytes answer.now) ≤ room_of writer.old → IsOk result }

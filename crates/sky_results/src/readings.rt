@@ -246,6 +246,20 @@ fn put_name_rules(writer: &mut Writer<'_>, r: &PathConfOk) -> Result<(), NoRoom>
     writer.put_bool(r.case_preserving)
 }
 
+/// Writes how many links and how long names may be, and what PATHCONF says of names and owners, 24 bytes.
+#[tactic(auto, using(crate::proofs::Sizes::sizes))]
+fn put_path_limits(writer: &mut Writer<'_>, r: &PathConfOk) -> Result<(), NoRoom>
+    ensures fits { 24 ≤ room_of writer.old → IsOk result }
+    ensures written { OnOk result (written_of writer.new ≡ written_of writer.old ++ uint r.now.link_max ++ uint r.now.name_max ++ boolean r.now.no_truncation
+        ++ boolean r.now.chown_restricted ++ boolean r.now.case_insensitive ++ boolean r.now.case_preserving) }
+    ensures room { OnOk result (room_of writer.new + 24 ≡ room_of writer.old) }
+    ensures same_buffer { name_of writer.new ≡ name_of writer.old }
+{
+    writer.put_u32(r.link_max)?;
+    writer.put_u32(r.name_max)?;
+    put_name_rules(writer, r)
+}
+
 /// Writes the results of PATHCONF (section 3.3.20).
 #[tactic(auto, using(crate::proofs::Sizes::sizes), unfolding(crate::specs::Results::pathconf_ok))]
 pub(crate) fn put_pathconf(writer: &mut Writer<'_>, r: &PathConfOk) -> Result<(), NoRoom>
@@ -256,9 +270,7 @@ pub(crate) fn put_pathconf(writer: &mut Writer<'_>, r: &PathConfOk) -> Result<()
 {
     put_ok(writer)?;
     put_post_op_attr(writer, &r.object)?;
-    writer.put_u32(r.link_max)?;
-    writer.put_u32(r.name_max)?;
-    put_name_rules(writer, r)
+    put_path_limits(writer, r)
 }
 
 /// How many bytes they are behind the status.
