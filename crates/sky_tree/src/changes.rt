@@ -21,7 +21,6 @@ use std::alloc::Global;
 /// Does a call of a procedure that changes the tree, and answers it.
 ///
 /// `NoMemory` where there is no memory for what the tree grows by. All is as it was then.
-#[tactic(auto, unfolding(sky_nfs::specs::Procedure::answer_of, crate::specs::Memory::takes_memory))]
 pub fn apply_change(
     alloc: Global,
     nodes: &mut Nodes,
