@@ -69,12 +69,14 @@ fn print_fields(rt: &impl Print, row: &str, check: &Check) -> io::Result<()> {
 
 /// Prints where the pages of these numbers lie, a line each.
 fn pages(rt: &impl Print, row: &str, check: &Check, numbers: &[&str]) -> Option<io::Result<()>> {
-    let mut done = Ok(());
     for word in numbers {
         let number = number(word)?;
-        done = println!(rt; "{row} {number}: {}", LinkOrNone(check.page(number)));
+        let done = println!(rt; "{row} {number}: {}", LinkOrNone(check.page(number)));
+        if done.is_err() {
+            return Some(done);
+        }
     }
-    Some(done)
+    Some(Ok(()))
 }
 
 #[derive(Clone, Copy)]

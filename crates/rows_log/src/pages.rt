@@ -116,12 +116,14 @@ fn print_around(rt: &impl Print, page: &Page, row: &str, fileid: u64) -> io::Res
 
 /// Prints the slots of fileids, a line each.
 fn slots(rt: &impl Print, page: &Page, row: &str, fileids: &[&str]) -> Option<io::Result<()>> {
-    let mut done = Ok(());
     for word in fileids {
         let fileid = number(word)?;
-        done = println!(rt; "{row} {fileid}: {}", LinkOrNone(page.slot(fileid)));
+        let done = println!(rt; "{row} {fileid}: {}", LinkOrNone(page.slot(fileid)));
+        if done.is_err() {
+            return Some(done);
+        }
     }
-    Some(done)
+    Some(Ok(()))
 }
 
 /// `COUNTER`: prints the item that the page is under an identifier, and the identifier that it says. The page goes on as the one
