@@ -2,7 +2,7 @@
 //! So far it replays recorded sessions: `bluesky replay --journal PATH --cloud PATH`.
 #![tactic(auto)]
 
-ghost use Rattle.std.specs.Prelude.{◌≡◌, ◌≢◌, [], drop, map, string_bytes, IfOk, IfErr};
+ghost use Rattle.std.specs.Prelude.{◌≡◌, ◌≢◌, ◌⊎◌, [], drop, map, string_bytes, IfOk, IfErr};
 ghost use Rattle.std.specs.Process.{exit_status};
 ghost use Rattle.std.specs.Vec.Iter.{into_iter_items};
 ghost use Rattle.sky_base.specs.Status.{number_of};
@@ -77,6 +77,7 @@ fn settings() -> &'static [u8]
 fn run_words(rt: &HostRuntime, alloc: Global, words: &[String]) -> Status
     ensures words { result ≡ Status.Words → IsReplay (map string_bytes words.now) → ⊥ }
     ensures settings { result ≢ Status.Settings }
+    ensures refused { (IsReplay (map string_bytes words.now) → ⊥) → (result ≡ Status.Words) ⊎ (result ≡ Status.Memory) }
 {
     let Ok(paths) = paths_of(alloc, words) else {
         return Status::Memory;
