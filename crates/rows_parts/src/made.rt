@@ -3,8 +3,8 @@
 use sky_base::{Attr, Device, Kind, Moment};
 use sky_nfs::{
     AccessOk, Answer, Bytes, CommitOk, CreateOk, FsInfoOk, FsStatOk, Handle, LinkResults,
-    ListedEntries, LookupOk, NfsStatus, PathConfOk, ReadDirOk, ReadLinkOk, Refused, WccAttr,
-    WccData,
+    ListedEntries, LookupOk, NfsStatus, PathConfOk, ReadDirOk, ReadLinkOk, ReadOk, Refused,
+    RenameResults, WccAttr, WccData, WriteOk,
 };
 use std::alloc::Global;
 
@@ -88,6 +88,20 @@ const CREATED: CreateOk = CreateOk {
     directory: UNTOLD,
 };
 
+/// Bytes that were written, of a file of which nothing is told.
+const WRITTEN: WriteOk = WriteOk {
+    file: UNTOLD,
+    count: 65536,
+    committed: false,
+    verifier: 9,
+};
+
+/// A refusal for want of a right, of which nothing is told.
+const NO_RIGHT: Refused<Option<Attr>> = Refused {
+    status: NfsStatus::Acces,
+    attributes: None,
+};
+
 /// The numbers of FSSTAT.
 const NUMBERS: FsStatOk = FsStatOk {
     root: None,
@@ -133,6 +147,7 @@ const LIMITS: PathConfOk = PathConfOk {
 fn refusal_of(word: &str) -> Option<Answer> {
     let status = match word {
         "io" => NfsStatus::Io,
+        "jukebox" => NfsStatus::Jukebox,
         "nospc" => NfsStatus::NoSpc,
         "mlink" => NfsStatus::MLink,
         "serverfault" => NfsStatus::ServerFault,
@@ -163,6 +178,13 @@ fn reading_of(alloc: Global, word: &str) -> Option<Answer> {
             entries: ListedEntries::new(Vec::new(alloc)),
             eof: false,
         }))),
+        "read" => Some(Answer::Read(Ok(ReadOk {
+            file: None,
+            eof: false,
+            data: Bytes::new(b"data".to_vec(alloc).ok()?),
+        }))),
+        "readlink-refused" => Some(Answer::ReadLink(Err(NO_RIGHT))),
+        "readdir-refused" => Some(Answer::ReadDir(Err(NO_RIGHT))),
         "read-io" => Some(Answer::Read(Err(Refused {
             status: NfsStatus::Io,
             attributes: None,
@@ -200,6 +222,29 @@ pub fn answer_of(alloc: Global, word: &str) -> Option<Answer> {
         "commit" => Some(Answer::Commit(Ok(CommitOk {
             file: UNTOLD,
             verifier: 9,
+        }))),
+        "write" => Some(Answer::Write(Ok(WRITTEN))),
+        "mknod" => Some(Answer::Mknod(Refused {
+            status: NfsStatus::NotSupp,
+            attributes: UNTOLD,
+        })),
+        "rename-isdir" => Some(Answer::Rename(Err(Refused {
+            status: NfsStatus::IsDir,
+            attributes: RenameResults {
+                from: TOLD,
+                to: UNTOLD,
+            },
+        }))),
+        "link-mlink" => Some(Answer::Link(Err(Refused {
+            status: NfsStatus::MLink,
+            attributes: LinkResults {
+                file: Some(ATTRIBUTES),
+                directory: UNTOLD,
+            },
+        }))),
+        "commit-jukebox" => Some(Answer::Commit(Err(Refused {
+            status: NfsStatus::Jukebox,
+            attributes: UNTOLD,
         }))),
         _ => reading_of(alloc, word),
     }
