@@ -13,3 +13,4 @@ pub mod Refused
 pub mod Replays
 pub mod Settled
 pub mod Spelled
+pub mod Untouched

@@ -6,6 +6,7 @@ use Rattle.sky_base.specs.declared.place.Damage.TheVariants.{Form}
 use Rattle.sky_base.specs.declared.place.Lost.{Lost}
 use Rattle.sky_base.specs.declared.place.Lost.TheVariants.{Damaged, Missing}
 use Rattle.sky_outside.specs.CloudMap.{CloudMap}
+use Rattle.sky_outside.specs.declared.storage.Storage.{Ghosts}
 use Rattle.sky_sound.specs.Cloud.{checkpoint_in, cloud_tree, covers_of, epoch_after}
 use Rattle.sky_recover.specs.Replaying.{IsForeignAt}
 use Rattle.sky_recover.specs.declared.fault.OpenFault.{OpenFault}
@@ -49,6 +50,16 @@ IsRefusedBy volume size (fault.Foreign at) image objects =
 IsRefusedBy volume size (fault.Lost (Missing name)) image objects = ⊥
 IsRefusedBy volume size (fault.Lost (Damaged name damage)) image objects = (checkpoint_in objects ≡ Some name) × (damage ≡ Form 0)
 IsRefusedBy volume size fault.Worn image objects = (checkpoint_in objects ≡ None) × (epoch_after objects ≡ max_number)
+
+-- What an opening that was refused left as it was, from s to t: the disk's image where the journal is what was refused, and the cloud's objects too
+-- where the list of the cloud was. The other faults come of the devices and of memory.
+abbrev pub LeavesRefused : {S : Type 0} → Ghosts S → S → S → OpenFault → Type 0
+LeavesRefused g s t (fault.Foreign at) = g.image t ≡ g.image s
+LeavesRefused g s t (fault.Lost lost) = (g.image t ≡ g.image s) × (g.objects t ≡ g.objects s)
+LeavesRefused g s t fault.Worn = (g.image t ≡ g.image s) × (g.objects t ≡ g.objects s)
+LeavesRefused g s t fault.DiskFault = Unit {0}
+LeavesRefused g s t fault.CloudFault = Unit {0}
+LeavesRefused g s t fault.Memory = Unit {0}
 
 -- no fault is one of the journal
 abbrev pub IsOfList : {T : Type 0} → Result T OpenFault → Type 0

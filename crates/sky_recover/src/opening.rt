@@ -13,7 +13,7 @@ ghost use Rattle.sky_sound.specs.Entries.{entries_above, journal_of};
 ghost use Rattle.sky_sound.specs.Recovery.{IsSound};
 ghost use Rattle.sky_recover.specs.Faults.{IsOfJournal};
 ghost use Rattle.sky_recover.specs.Opening.{IsOpened, LeavesFound, WhereBothTold};
-ghost use Rattle.sky_recover.specs.Refusals.{IsJudged, IsOfDevices, IsOfReading, IsRefusedBy};
+ghost use Rattle.sky_recover.specs.Refusals.{IsJudged, IsOfDevices, IsOfReading, IsRefusedBy, LeavesRefused};
 ghost use Rattle.sky_recover.specs.Replaying.{FailsAt};
 ghost use Rattle.sky_recover.specs.Settling.{IsRead};
 ghost use Rattle.sky_recover.specs.Steps.{IsContinued, KeepsEntries, PutsOrNot};
@@ -93,6 +93,7 @@ fn continue_from<D: Disk>(
     ensures is { IfOk result (λ d. IsJournal d.journal) }
     ensures foreign { (at : ℕ) → IsErrOf result (Foreign at) → WhereTold (D.image disk.old) (λ image. (list : List (ℕ × List ℕ))
         → journal_of journal.volume journal.size 0 image ≡ Ok list → FailsAt (empty_tree volume) (entries_above 0 list) image at) }
+    ensures kept { (at : ℕ) → IsErrOf result (Foreign at) → D.image disk.new ≡ D.image disk.old }
     ensures any_moment { KeepsEntries D.Storage journal.volume journal.size disk.old disk.new }
     ensures tells { OnOk result (BothTold (λ old new. Unit {0}) (D.image disk.old) (D.image disk.new)) }
     ensures faults { IsOfJournal result }
@@ -143,6 +144,8 @@ pub fn recover<S: Site>(
     ensures judged { WhereTold (S.objects site.old) (IsJudged result) }
     ensures refused { IfErr result (λ fault. WhereBothTold S.Storage site.old
         (IsRefusedBy settings.now.volume settings.now.journal_area fault)) }
+    // A site that is refused for what it has is left as it was.
+    ensures untouched { IfErr result (LeavesRefused S.Storage site.old site.new) }
     ensures sound { WhereBothTold S.Storage site.old (λ image objects.
         IsSound settings.now.volume settings.now.journal_area image objects → IsOfDevices result) }
     ensures disk_cause { Counts (S.disk_faults site.old) (S.disk_faults site.new) (IsErrOf result DiskFault) }

@@ -1,5 +1,6 @@
 -- Laws of an opening, as the world takes it: what was found, and with which status it is refused.
-use Rattle.std.proofs.Common.{◌≡◌, ℕ, Result, Err, refl, sym, ap}
+use Rattle.std.specs.Prelude.{IfErr}
+use Rattle.std.proofs.Common.{◌≡◌, ℕ, Result, Ok, Err, refl, sym, ap}
 use Rattle.sky_base.specs.declared.place.Lost.TheVariants.{Damaged, Missing}
 use Rattle.sky_base.specs.declared.status.Status.{Status}
 use Rattle.sky_base.specs.declared.status.Status.TheVariants as status
@@ -9,14 +10,14 @@ use Rattle.sky_outside.specs.Count.{Counts}
 use Rattle.sky_outside.specs.declared.storage.Storage.{Ghosts}
 use Rattle.sky_outside.proofs.CountLaws.{counts_weaker}
 use Rattle.sky_recover.specs.Opening.{Found, IsFoundOn, IsOpenOn, IsOpened, WhereBothTold, found_by}
-use Rattle.sky_recover.specs.Refusals.{IsRefusedBy}
+use Rattle.sky_recover.specs.Refusals.{IsRefusedBy, LeavesRefused}
 use Rattle.sky_recover.specs.declared.fault.OpenFault.{OpenFault}
 use Rattle.sky_recover.specs.declared.fault.OpenFault.TheVariants.{CloudFault, DiskFault, Foreign, Lost, Memory, Worn}
 use Rattle.sky_recover.specs.declared.opened.Opened.{Opened}
 use Rattle.sky_script.specs.Frame as frame
 use Rattle.sky_script.specs.Frame.{OutFrame}
 use Rattle.sky_world.specs.Meaning.{opening}
-use Rattle.sky_world.specs.Opening.{IsOfOpening, IsRefusedAs, status_of}
+use Rattle.sky_world.specs.Opening.{IsOfOpening, IsRefusedAs, LeavesRefusedAs, status_of}
 
 -- what was found, and the frame that says it
 pub opened_as : {S : Type 0} (g : Ghosts S) (volume size : ℕ) (s t : S) (durable : DurableView) (opened : Opened) → IsOpened g volume size s t durable opened
@@ -45,6 +46,21 @@ refused_as g volume size s (Foreign at) is = is
 refused_as g volume size s (Lost (Missing name)) is = is
 refused_as g volume size s (Lost (Damaged name damage)) is = is
 refused_as g volume size s Worn is = is
+
+-- what the refusal left as it was
+pub left_as : {S : Type 0} (g : Ghosts S) (s t : S) (fault : OpenFault) → LeavesRefused g s t fault → LeavesRefusedAs g s t (status_of fault)
+left_as g s t DiskFault is = is
+left_as g s t CloudFault is = is
+left_as g s t Memory is = is
+left_as g s t (Foreign at) is = is
+left_as g s t (Lost (Missing name)) is = is
+left_as g s t (Lost (Damaged name damage)) is = is
+left_as g s t Worn is = is
+
+-- a sink that failed says nothing of it
+pub left_sunk : {T S : Type 0} (r : Result T Status) (g : Ghosts S) (s t : S) → IfErr r (λ why. why ≡ status.SinkFault) → IfErr r (LeavesRefusedAs g s t)
+left_sunk (Ok x) g s t is = is
+left_sunk (Err why) g s t is = rw is tt
 
 -- which device is blamed
 disk_blamed : (fault : OpenFault) → status_of fault ≡ status.JournalFault → fault ≡ DiskFault

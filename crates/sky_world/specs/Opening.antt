@@ -5,13 +5,14 @@ use Rattle.sky_base.specs.declared.place.Lost.TheVariants as lost
 use Rattle.sky_base.specs.declared.status.Status.{Status}
 use Rattle.sky_base.specs.declared.status.Status.TheVariants.{Memory, JournalFault, CloudFault, Foreign, Missing, Damaged, Worn}
 use Rattle.sky_outside.specs.CloudMap.{CloudMap}
+use Rattle.sky_outside.specs.declared.storage.Storage.{Ghosts}
 use Rattle.sky_nfs.specs.History.{last_tree}
 use Rattle.sky_nfs.specs.Tree.{epoch_start}
 use Rattle.sky_recover.specs.declared.fault.OpenFault.{OpenFault}
 use Rattle.sky_recover.specs.declared.fault.OpenFault.TheVariants as fault
 use Rattle.sky_recover.specs.declared.fault.OpenFault.TheVariants.{DiskFault, Lost}
 use Rattle.sky_recover.specs.Opening.{Found}
-use Rattle.sky_recover.specs.Refusals.{IsRefusedBy}
+use Rattle.sky_recover.specs.Refusals.{IsRefusedBy, LeavesRefused}
 use Rattle.sky_script.specs.Frame.{session_count}
 use Rattle.sky_settings.specs.declared.settings.Fields.{Fields}
 use Rattle.sky_world.specs.declared.sessions.Session.TheVariants.{Absent}
@@ -46,6 +47,14 @@ IsRefusedAs volume size (Missing name) image objects = IsRefusedBy volume size (
 IsRefusedAs volume size (Damaged name damage) image objects = IsRefusedBy volume size (Lost (lost.Damaged name damage)) image objects
 IsRefusedAs volume size Worn image objects = IsRefusedBy volume size fault.Worn image objects
 IsRefusedAs volume size _ image objects = Unit {0}
+
+-- what an opening that was refused with this status left as it was, from s to t
+abbrev pub LeavesRefusedAs : {S : Type 0} → Ghosts S → S → S → Status → Type 0
+LeavesRefusedAs g s t (Foreign at) = LeavesRefused g s t (fault.Foreign at)
+LeavesRefusedAs g s t (Missing name) = LeavesRefused g s t (Lost (lost.Missing name))
+LeavesRefusedAs g s t (Damaged name damage) = LeavesRefused g s t (Lost (lost.Damaged name damage))
+LeavesRefusedAs g s t Worn = LeavesRefused g s t fault.Worn
+LeavesRefusedAs g s t _ = Unit {0}
 
 -- A restart may be refused with this status: where the site does not tell what it has; or since no epoch is left.
 abbrev pub MayRefuse : Status → State → Type 0

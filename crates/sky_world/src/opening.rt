@@ -9,7 +9,7 @@ ghost use Rattle.sky_recover.specs.Opening.{Found, IsFoundOn, IsOpenOn, LeavesFo
 ghost use Rattle.sky_script.specs.Frame.{Opened as OpenedFrame};
 ghost use Rattle.sky_sound.specs.Boot.{claimed};
 ghost use Rattle.sky_world.specs.Meaning.{opening};
-ghost use Rattle.sky_world.specs.Opening.{IsOfOpening, IsRefusedAs, status_of};
+ghost use Rattle.sky_world.specs.Opening.{IsOfOpening, IsRefusedAs, LeavesRefusedAs, status_of};
 
 use sky_base::{Lost, Status};
 use sky_calls::DurableTree;
@@ -49,6 +49,7 @@ pub fn open_site<S: Site>(
     ensures tells { OnOk result (BothTold (λ old new. Unit {0}) (S.image site.old) (S.image site.new)) }
     ensures refused { IfErr result (λ status. WhereBothTold S.Storage site.old
         (IsRefusedAs settings.now.volume settings.now.journal_area status)) }
+    ensures untouched { IfErr result (LeavesRefusedAs S.Storage site.old site.new) }
     ensures statuses { IfErr result IsOfOpening }
     ensures size { S.bytes_of site.new ≡ S.bytes_of site.old }
     ensures disk_cause { Counts (S.disk_faults site.old) (S.disk_faults site.new) (IsErrOf result Status.JournalFault) }

@@ -14,7 +14,7 @@ ghost use Rattle.sky_world.specs.Feeding.{Answers, Fails, Feeds, FeedFails, Hand
 ghost use Rattle.sky_recover.specs.Opening.{Found, IsFoundOn, IsOpenOn, LeavesFound, WhereBothTold};
 ghost use Rattle.sky_sound.specs.Boot.{claimed};
 ghost use Rattle.sky_world.specs.Meaning.{State, start as started, opening, frame_for, IsStep};
-ghost use Rattle.sky_world.specs.Opening.{IsOfOpening, IsRefusedAs, MayRefuse, reopened_world};
+ghost use Rattle.sky_world.specs.Opening.{IsOfOpening, IsRefusedAs, LeavesRefusedAs, MayRefuse, reopened_world};
 ghost use Rattle.sky_world.specs.Sessions.{IsReady, closed};
 ghost use Rattle.sky_world.specs.declared.sessions.Session.{Session};
 ghost use Rattle.sky_world.specs.World.{ServiceView, Stands, StepFailed, Stepped, SteppedPart, SteppedDown, IsRestart, stats_shown, tells};
@@ -273,8 +273,9 @@ impl World {
         // The epoch is claimed in the cloud.
         ensures claims { OnOk result (BothTold (λ old new. new ≡ claimed old) (S.objects site.old) (S.objects site.new)) }
 
-        // Each refusal has its cause on the site.
+        // Each refusal has its cause on the site, and a site that is refused for what it has is left as it was.
         ensures refused { IfErr result (λ status. WhereBothTold S.Storage site.old (IsRefusedAs settings.volume settings.journal_area status)) }
+        ensures untouched { IfErr result (LeavesRefusedAs S.Storage site.old site.new) }
         ensures statuses { IfErr result (λ status. IsOfOpening status ⊎ (status ≡ Status.SinkFault)) }
         ensures size { S.bytes_of site.new ≡ S.bytes_of site.old }
         ensures disk_cause { Counts (S.disk_faults site.old) (S.disk_faults site.new) (IsErrOf result Status.JournalFault) }
@@ -438,6 +439,7 @@ impl World {
         ensures tells { OnOk result (BothTold (λ old new. Unit {0}) (S.image site.old) (S.image site.new)) }
         ensures refused { IfErr result (λ status. WhereBothTold S.Storage site.old
             (IsRefusedAs self.old.settings.volume self.old.settings.journal_area status)) }
+        ensures untouched { IfErr result (LeavesRefusedAs S.Storage site.old site.new) }
         ensures statuses { IfErr result IsOfOpening }
         ensures size { S.bytes_of site.new ≡ S.bytes_of site.old }
         ensures disk_cause { Counts (S.disk_faults site.old) (S.disk_faults site.new) (IsErrOf result Status.JournalFault) }
@@ -463,6 +465,7 @@ impl World {
         ensures failed { IfErr result (λ status. StepFailed S.Storage status self.old site.old frames.Restart site.new
             (record { before = K.written sink.old; after = K.written sink.new })) }
         ensures refused { IfErr result (λ status. (state : State) → Stands S.Storage self.old site.old state → MayRefuse status state) }
+        ensures untouched { IfErr result (LeavesRefusedAs S.Storage site.old site.new) }
         ensures statuses { IfErr result (λ status. IsOfOpening status ⊎ (status ≡ Status.SinkFault)) }
         ensures size { S.bytes_of site.new ≡ S.bytes_of site.old }
         ensures disk_cause { Counts (S.disk_faults site.old) (S.disk_faults site.new) (IsErrOf result Status.JournalFault) }
@@ -518,6 +521,7 @@ impl World {
             (record { before = K.written sink.old; after = K.written sink.new })) }
         ensures unchanged { IsErrOf result Status.Memory → (IsRestart (frame_of frame.now) → ⊥) → self.new ≡ self.old }
         ensures refused { IfErr result (λ status. (state : State) → Stands S.Storage self.old site.old state → MayRefuse status state) }
+        ensures untouched { frame_of frame.now ≡ frames.Restart → IfErr result (LeavesRefusedAs S.Storage site.old site.new) }
         ensures statuses { IfErr result (λ status. IsOfOpening status ⊎ (status ≡ Status.SinkFault)) }
         ensures size { S.bytes_of site.new ≡ S.bytes_of site.old }
         ensures disk_cause { Counts (S.disk_faults site.old) (S.disk_faults site.new) (IsErrOf result Status.JournalFault) }
@@ -578,8 +582,9 @@ impl World {
             (record { before = K.written sink.old; after = K.written sink.new })) }
         ensures unchanged { IsErrOf result Status.Memory → (IsRestart (frame_of frame.now) → ⊥) → self.new ≡ record self.old { ended = true } }
 
-        // A restart refuses no site that tells what it has, unless no epoch is left.
+        // A restart refuses no site that tells what it has, unless no epoch is left. What it refuses for what it has is left as it was.
         ensures refused { IfErr result (λ status. (state : State) → Stands S.Storage self.old site.old state → MayRefuse status state) }
+        ensures untouched { frame_of frame.now ≡ frames.Restart → IfErr result (LeavesRefusedAs S.Storage site.old site.new) }
         ensures statuses { IfErr result (λ status. IsOfOpening status ⊎ (status ≡ Status.SinkFault)) }
         ensures ended { self.new.ended ≡ is_err result }
         ensures size { S.bytes_of site.new ≡ S.bytes_of site.old }

@@ -13,6 +13,7 @@ use Rattle.sky_recover.proofs.Ends.{at_settings, fails_there, foreign_there, unr
 use Rattle.sky_recover.proofs.Moments.{found_kept, found_put}
 use Rattle.sky_recover.proofs.Outcome.{opened}
 use Rattle.sky_recover.proofs.Refused.{refused_read, refused_redone, sound_ends}
+use Rattle.sky_recover.proofs.Untouched.{listed as untouched_listed, read as untouched_read, redone as untouched_redone}
 use Rattle.sky_recover.proofs.opening.recover.Goals as goal
 
 -- ---- the journal was not read, or the boot object not put
@@ -52,7 +53,19 @@ returns-in_err-journal-clause-unread g c =
     c.volume-volume.result c.args.settings.now.volume c.journal_area-area.result c.args.settings.now.journal_area c.volume-volume.ensures.same c.journal_area-area.ensures.same
     (unread_put g.S.Storage c.volume-volume.result c.journal_area-area.result c.args.site.now c.find_epoch.new.cloud c.find_epoch.ensures.looks c.read_and_claim.new.site c.read_and_claim.ensures.unread)
 
+pub returns-in_err-journal-clause-untouched : goal.returns-in_err-journal-clause-untouched
+returns-in_err-journal-clause-untouched g c =
+    let p = err_from_is_err_and c.from_residual-in_err-journal.result c.from_residual-in_err-journal.ensures.1 in
+    rw (p.1, p.2)
+    (untouched_read g.S.Storage c.args.site.now c.find_epoch.new.cloud c.read_and_claim.new.site c.find_epoch.ensures.looks c.read_and_claim.ensures.image JournalView c.in_err-journal.field-0.0
+    c.in_err-journal.ensures.faults)
+
 -- ---- the cloud was not listed
+
+pub returns-in_err-epoch-clause-untouched : goal.returns-in_err-epoch-clause-untouched
+returns-in_err-epoch-clause-untouched g c =
+    let p = err_from_is_err_and c.from_residual.result c.from_residual.ensures.1 in
+    rw (p.1, p.2) (untouched_listed g.S.Storage c.args.site.now c.find_epoch.new.cloud c.find_epoch.ensures.looks c.in_err-epoch.field-0.0)
 
 pub returns-in_err-epoch-clause-unread : goal.returns-in_err-epoch-clause-unread
 returns-in_err-epoch-clause-unread g c =
@@ -92,6 +105,13 @@ returns-in_err-durable-clause-sound g c =
     (λ at is.
     fails_there g.S.Storage c.volume-volume.result c.journal_area-area.result c.args.site.now c.find_epoch.new.cloud c.find_epoch.ensures.looks c.read_and_claim.new.site c.in_ok-journal.journal
     c.in_ok-journal.ensures.volume c.in_ok-journal.ensures.size c.read_and_claim.ensures.image c.in_ok-journal.ensures.read at (c.in_err-durable.ensures.foreign at is))))))
+
+pub returns-in_err-durable-clause-untouched : goal.returns-in_err-durable-clause-untouched
+returns-in_err-durable-clause-untouched g c =
+    let p = err_from_is_err_and c.from_residual-in_err-durable.result c.from_residual-in_err-durable.ensures.1 in
+    rw (p.1, p.2)
+    (untouched_redone g.S.Storage c.args.site.now c.find_epoch.new.cloud c.read_and_claim.new.site c.continue_from.new.disk c.find_epoch.ensures.looks c.read_and_claim.ensures.image DurableView
+    c.in_err-durable.field-0.0 c.in_err-durable.ensures.faults c.in_err-durable.ensures.kept)
 
 pub returns-in_err-durable-clause-unread : goal.returns-in_err-durable-clause-unread
 returns-in_err-durable-clause-unread g c =

@@ -1,4 +1,4 @@
-use Rattle.sky_world.proofs.OpenedLaws.{counts_cloud, counts_disk, opened_as, refused_as}
+use Rattle.sky_world.proofs.OpenedLaws.{counts_cloud, counts_disk, left_as, opened_as, refused_as}
 use Rattle.sky_world.proofs.opening.open_site.Goals as goal
 
 pub returns-in-Ok-clause-found : goal.returns-in-Ok-clause-found
@@ -16,3 +16,7 @@ returns-in-Err-clause-disk_cause g c =
 pub returns-in-Err-clause-cloud_cause : goal.returns-in-Err-clause-cloud_cause
 returns-in-Err-clause-cloud_cause g c =
     rw c.status_of.ensures.status (counts_cloud (g.S.Storage.cloud_faults c.args.site.now) (g.S.Storage.cloud_faults c.recover.new.site) c.in-Err.fault (rw c.in-Err.is at c.recover.ensures.cloud_cause))
+
+pub returns-in-Err-clause-untouched : goal.returns-in-Err-clause-untouched
+returns-in-Err-clause-untouched g c =
+    rw c.status_of.ensures.status (left_as g.S.Storage c.args.site.now c.recover.new.site c.in-Err.fault c.in-Err.ensures.untouched)
