@@ -18,7 +18,7 @@ use Rattle.sky_script.specs.Beginning.{HadSome}
 use Rattle.sky_script.specs.declared.reading.FrameFault.{FrameFault}
 use Rattle.sky_script.specs.declared.reading.FrameFault.TheVariants as fault
 use Rattle.sky_world.specs.Meaning.{kept_of, opening, start}
-use Rattle.sky_world.specs.Opening.{IsOfOpening, IsRefusedAs}
+use Rattle.sky_world.specs.Opening.{IsOfOpening, IsRefusedAs, LeavesRefusedAs}
 use Rattle.sky_world.specs.World.{tells}
 use Rattle.sky_world.proofs.FindingLaws.{both_told_from}
 use Rattle.bluesky.specs.Run.{SourceUse, SinkUse, other_magic, within_magic, GaveEnding, GaveUnopened, IsOfDamage, SinkCounts, at_opening, EndsBy, Ran, RanOn, RanUnopened, area_size, session_bytes, volume}
@@ -72,6 +72,7 @@ module _ {S : Type 0} (g : Ghosts S) (s : S) (nothing : NothingPending g s) wher
     took = refl;
     gave = refl;
     refused = no_refusal g s status.Words (λ image objects. tt);
+    untouched = tt;
     leaves = found_none g s nothing;
   })
 
@@ -81,6 +82,7 @@ module _ {S : Type 0} (g : Ghosts S) (s : S) (nothing : NothingPending g s) wher
     took = refl;
     gave = refl;
     refused = no_refusal g s status.Settings (λ image objects. tt);
+    untouched = tt;
     leaves = found_none g s nothing;
   })
 
@@ -94,6 +96,7 @@ module _ {S : Type 0} (g : Ghosts S) (s : S) (nothing : NothingPending g s) wher
         took = refl;
         gave = record { kept = part.0; less = part.1; given = part.2 };
         refused = no_refusal g s status.SinkFault (λ image objects. tt);
+        untouched = tt;
         leaves = found_none g s nothing;
       } in
       inl (subst (λ (w : Status). RanUnopened g s s w (record { had = had; left = had }) at) (sym is) of)
@@ -190,10 +193,10 @@ module _ {X S : Type 0} (g : Ghosts S) (s t : S) (had before mid more after : Op
 
   pub ran_failed : LeavesFound g volume area_size s t → Given before mid magic → IsOfOpening d ⊎ (d ≡ status.SinkFault) → (IsOfOpening d → more ≡ mid)
       → (IsErrOf r status.SinkFault → (found : Found) × IsFoundOn g volume area_size s found × GivenPart mid more (out_frame (opening found)))
-      → WhereBothTold g s (IsRefusedAs volume area_size d) → Counts x y (IsErrOf r status.SinkFault) → (d ≡ status.SinkFault → after ≡ more)
+      → WhereBothTold g s (IsRefusedAs volume area_size d) → LeavesRefusedAs g s t d → Counts x y (IsErrOf r status.SinkFault) → (d ≡ status.SinkFault → after ≡ more)
       → (d ≢ status.SinkFault → GaveEnding (record { before = more; after = after; faults_before = y; faults_after = z }) [] d)
       → Ran g s t w source_then sink_then
-  ran_failed leaves given (inl of) unwritten partly refused counts sunk last =
+  ran_failed leaves given (inl of) unwritten partly refused untouched counts sunk last =
       let still : y ≡ x = counts.quiet (λ blamed. of_not_sink d of (let e : d ≡ status.SinkFault = cc in e)) in
       let same : more ≡ mid = unwritten of in
       let there : Given before more magic = subst (λ (b : Option (List ℕ)). Given before b magic) (sym same) given in
@@ -203,10 +206,11 @@ module _ {X S : Type 0} (g : Ghosts S) (s t : S) (had before mid more after : Op
         took = refl;
         gave = gave_unopened d sink_then of ending;
         refused = refused;
+        untouched = untouched;
         leaves = leaves;
       } in
       inl (subst (λ (v : Status). RanUnopened g s t v source_then sink_then) (sym told) ran)
-  ran_failed leaves given (inr sink) unwritten partly refused counts sunk last =
+  ran_failed leaves given (inr sink) unwritten partly refused untouched counts sunk last =
       let blamed : r ≡ Err status.SinkFault = cc in
       let part = partly blamed in
       let moved = subst (λ (b : Option (List ℕ)). GivenPart mid b (out_frame (opening part.0))) (sym (sunk sink)) part.2 in

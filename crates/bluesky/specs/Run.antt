@@ -18,7 +18,7 @@ use Rattle.sky_world.specs.Finding as step
 use Rattle.sky_world.specs.Finding.{FindsPrefix, floor_of, reached}
 use Rattle.sky_world.specs.Laws.{NoneOutOfMemory}
 use Rattle.sky_world.specs.Meaning.{State, Kept, Absent, Memory as Supply, Ample, Scarce, start, opening, session_at, Step, Steps}
-use Rattle.sky_world.specs.Opening.{IsRefusedAs}
+use Rattle.sky_world.specs.Opening.{IsRefusedAs, LeavesRefusedAs}
 use Rattle.sky_world.specs.World.{IsRestart, tells}
 
 -- how many frames a recording may have, the end among them
@@ -249,12 +249,13 @@ GaveUnopened (Damaged name damage) sink = GaveEnding sink magic (Damaged name da
 GaveUnopened Worn sink = GaveEnding sink magic Worn
 GaveUnopened _ sink = ⊥
 
--- A run from s to t that did not open its site, and ended with this status: nothing was read. After a crash at any moment recovery finds the
--- same as before.
+-- A run from s to t that did not open its site, and ended with this status: nothing was read. A site that was refused for what it has is left as it
+-- was, and after a crash at any moment recovery finds the same as before.
 pub record RanUnopened {S : Type 0} (g : Ghosts S) (s t : S) (status : Status) (source : SourceUse) (sink : SinkUse) : Type 0 where
   pub took : TookNothing source
   pub gave : GaveUnopened status sink
   pub refused : WhereBothTold g s (IsRefusedAs volume area_size status)
+  pub untouched : LeavesRefusedAs g s t status
   pub leaves : LeavesFound g volume area_size s t
 
 abbrev pub Ran : {S : Type 0} → Ghosts S → S → S → Status → SourceUse → SinkUse → Type 0

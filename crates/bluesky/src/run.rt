@@ -9,7 +9,7 @@ ghost use Rattle.sky_script.specs.Frame.{magic, out_frame};
 ghost use Rattle.sky_sound.specs.Recovery.{IsSound};
 ghost use Rattle.sky_world.specs.Carried.{IsServing};
 ghost use Rattle.sky_world.specs.Meaning.{start, opening};
-ghost use Rattle.sky_world.specs.Opening.{IsOfOpening, IsRefusedAs};
+ghost use Rattle.sky_world.specs.Opening.{IsOfOpening, IsRefusedAs, LeavesRefusedAs};
 ghost use Rattle.sky_world.specs.World.{Stands, tells};
 ghost use Rattle.bluesky.specs.Words.{IsReplay};
 ghost use Rattle.bluesky.specs.Run.{Ran, RanOn, IsExact, IsOfDamage, IsReplayed, SinkCounts, area_size, session_bytes, volume};
@@ -59,6 +59,7 @@ fn open<K: Sink, P: Site>(
         × GivenPart (K.written sink.old) (K.written sink.new) (out_frame (opening found)) }
     ensures any_moment { LeavesFound P.Storage volume area_size site.old site.new }
     ensures refused { IfErr result (λ status. WhereBothTold P.Storage site.old (IsRefusedAs volume area_size status)) }
+    ensures untouched { IfErr result (LeavesRefusedAs P.Storage site.old site.new) }
     ensures statuses { IfErr result (λ status. IsOfOpening status ⊎ (status ≡ Status.SinkFault)) }
     ensures size { P.bytes_of site.new ≡ P.bytes_of site.old }
     ensures journal_cause { Counts (P.disk_faults site.old) (P.disk_faults site.new) (IsErrOf result Status.JournalFault) }

@@ -19,6 +19,7 @@ returns-in-Err-open-clause-ran g c =
     ran_failed g.P.Storage c.args.site.now c.open.new.site (g.S.Source.left c.args.source.now) (written c.args.sink.now) (written begun) (written c.open.new.sink) (written ended.new.sink)
     (faults c.args.sink.now) (faults c.open.new.sink) (faults ended.new.sink) c.open.result c.in-Err-open.status ended.result c.in-Err-open.is ended.ensures.status
     c.open.ensures.any_moment c.in_default.ensures.ok c.in-Err-open.ensures.statuses (λ of. ap written (c.in-Err-open.ensures.unwritten of)) c.open.ensures.partly c.in-Err-open.ensures.refused
+    c.in-Err-open.ensures.untouched
     (counts_on (faults c.args.sink.now) (faults begun) (faults c.open.new.sink) (IsErrOf c.open.result status.SinkFault) still c.open.ensures.cause) (λ sunk. ap written (ended.ensures.sunk sunk)) ended.ensures.gave
 
 pub returns-in-Err-open-clause-sound : goal.returns-in-Err-open-clause-sound
