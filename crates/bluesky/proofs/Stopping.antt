@@ -226,11 +226,12 @@ module _ {S : Type 0} (g : Ghosts S) (told : Bool) (found : Found) (of : WorldVi
       ran_still status.Memory nothing.1 (are_few, inl (begin_failed, (refl, refl)))
 
   -- a restart came to no end
-  restart_failed : (v : Status) (f : InFrame) → Had l1 l2 (in_frame f) → y ≡ x → GaveEnding finished [] v → world.RestartFailed g of s1 f s2 got
+  restart_failed : (v : Status) (f : InFrame) → MayRefuse v going.state → Had l1 l2 (in_frame f) → y ≡ x → GaveEnding finished [] v → world.RestartFailed g of s1 f s2 got
       → RestartFailed source sink found going.frames going.answers going.state v (floor_of f going.state) going.state.kept
-  restart_failed v f read quiet last failed = record {
+  restart_failed v f may read quiet last failed = record {
     f = f;
     restart = failed.restart;
+    cause = may;
     floor_is = refl;
     reached_is = refl;
     took = took (in_frame f) read;
@@ -241,49 +242,49 @@ module _ {S : Type 0} (g : Ghosts S) (told : Bool) (found : Found) (of : WorldVi
   ran_restart : (v : Status) (f : InFrame) → world.RestartFailed g of s1 f s2 got → EndsBy v source sink found going.frames going.answers going.state (floor_of f going.state) going.state.kept → RanOn g s s2 v source sink
   ran_restart v f failed ends = ran v (floor_of f going.state) going.state.kept (within (floor_of f going.state) going.state.kept (failed.leaves going.state going.stands)) ends
 
-  ran_journal : (f : InFrame) → IsInFrame f → Had l1 l2 (in_frame f) → y ≡ x → GaveEnding finished [] status.JournalFault → SteppedDown g of s1 f s2 got ⊎ world.RestartFailed g of s1 f s2 got
+  ran_journal : (f : InFrame) → MayRefuse status.JournalFault going.state → IsInFrame f → Had l1 l2 (in_frame f) → y ≡ x → GaveEnding finished [] status.JournalFault → SteppedDown g of s1 f s2 got ⊎ world.RestartFailed g of s1 f s2 got
       → RanOn g s s2 status.JournalFault source sink
-  ran_journal f formed read quiet last (inl down) = ran_record f formed read quiet last down
-  ran_journal f formed read quiet last (inr failed) = ran_restart status.JournalFault f failed (are_few, inr (restart_failed status.JournalFault f read quiet last failed))
+  ran_journal f may formed read quiet last (inl down) = ran_record f formed read quiet last down
+  ran_journal f may formed read quiet last (inr failed) = ran_restart status.JournalFault f failed (are_few, inr (restart_failed status.JournalFault f may read quiet last failed))
 
-  ran_memory : (f : InFrame) → IsInFrame f → Had l1 l2 (in_frame f) → y ≡ x → GaveEnding finished [] status.Memory
+  ran_memory : (f : InFrame) → MayRefuse status.Memory going.state → IsInFrame f → Had l1 l2 (in_frame f) → y ≡ x → GaveEnding finished [] status.Memory
       → (world.BeginsFirst of f × world.DidNothing s1 s2 got) ⊎ world.RestartFailed g of s1 f s2 got → RanOn g s s2 status.Memory source sink
-  ran_memory f formed read quiet last (inl begins) = ran_begin f formed read quiet last begins.0 begins.1
-  ran_memory f formed read quiet last (inr failed) = ran_restart status.Memory f failed (are_few, inr (restart_failed status.Memory f read quiet last failed))
+  ran_memory f may formed read quiet last (inl begins) = ran_begin f formed read quiet last begins.0 begins.1
+  ran_memory f may formed read quiet last (inr failed) = ran_restart status.Memory f failed (are_few, inr (restart_failed status.Memory f may read quiet last failed))
 
   -- a step failed with this status
-  ran_failed : (how : Status) → ((how ≡ status.SinkFault → ⊥) → y ≡ x) → (how ≡ status.SinkFault → g3 ≡ g2) → (how ≢ status.SinkFault → GaveEnding finished [] how)
+  ran_failed : (how : Status) → MayRefuse how going.state → ((how ≡ status.SinkFault → ⊥) → y ≡ x) → (how ≡ status.SinkFault → g3 ≡ g2) → (how ≢ status.SinkFault → GaveEnding finished [] how)
       → (f : InFrame) → IsInFrame f → Had l1 l2 (in_frame f) → world.StepFailed g how of s1 f s2 got → RanOn g s s2 how source sink
-  ran_failed status.SinkFault quiet sunk last f formed read failed = ran_sink f formed read (sunk refl) failed
-  ran_failed status.JournalFault quiet sunk last f formed read failed = ran_journal f formed read (quiet (λ e. cc)) (last (λ e. cc)) failed
-  ran_failed status.Memory quiet sunk last f formed read failed = ran_memory f formed read (quiet (λ e. cc)) (last (λ e. cc)) failed
-  ran_failed status.CloudFault quiet sunk last f formed read failed =
-      ran_restart status.CloudFault f failed (are_few, restart_failed status.CloudFault f read (quiet (λ e. cc)) (last (λ e. cc)) failed)
-  ran_failed (status.Foreign at) quiet sunk last f formed read failed =
-      ran_restart (status.Foreign at) f failed (are_few, restart_failed (status.Foreign at) f read (quiet (λ e. cc)) (last (λ e. cc)) failed)
-  ran_failed (status.Missing name) quiet sunk last f formed read failed =
-      ran_restart (status.Missing name) f failed (are_few, restart_failed (status.Missing name) f read (quiet (λ e. cc)) (last (λ e. cc)) failed)
-  ran_failed (status.Damaged name damage) quiet sunk last f formed read failed =
-      ran_restart (status.Damaged name damage) f failed (are_few, restart_failed (status.Damaged name damage) f read (quiet (λ e. cc)) (last (λ e. cc)) failed)
-  ran_failed status.Worn quiet sunk last f formed read failed =
-      ran_restart status.Worn f failed (are_few, restart_failed status.Worn f read (quiet (λ e. cc)) (last (λ e. cc)) failed)
-  ran_failed status.Done quiet sunk last f formed read failed = absurd failed
-  ran_failed status.Words quiet sunk last f formed read failed = absurd failed
-  ran_failed (status.Malformed at) quiet sunk last f formed read failed = absurd failed
-  ran_failed status.Early quiet sunk last f formed read failed = absurd failed
-  ran_failed status.SourceFault quiet sunk last f formed read failed = absurd failed
-  ran_failed status.Long quiet sunk last f formed read failed = absurd failed
-  ran_failed status.Settings quiet sunk last f formed read failed = absurd failed
+  ran_failed status.SinkFault may quiet sunk last f formed read failed = ran_sink f formed read (sunk refl) failed
+  ran_failed status.JournalFault may quiet sunk last f formed read failed = ran_journal f may formed read (quiet (λ e. cc)) (last (λ e. cc)) failed
+  ran_failed status.Memory may quiet sunk last f formed read failed = ran_memory f may formed read (quiet (λ e. cc)) (last (λ e. cc)) failed
+  ran_failed status.CloudFault may quiet sunk last f formed read failed =
+      ran_restart status.CloudFault f failed (are_few, restart_failed status.CloudFault f may read (quiet (λ e. cc)) (last (λ e. cc)) failed)
+  ran_failed (status.Foreign at) may quiet sunk last f formed read failed =
+      ran_restart (status.Foreign at) f failed (are_few, restart_failed (status.Foreign at) f may read (quiet (λ e. cc)) (last (λ e. cc)) failed)
+  ran_failed (status.Missing name) may quiet sunk last f formed read failed =
+      ran_restart (status.Missing name) f failed (are_few, restart_failed (status.Missing name) f may read (quiet (λ e. cc)) (last (λ e. cc)) failed)
+  ran_failed (status.Damaged name damage) may quiet sunk last f formed read failed =
+      ran_restart (status.Damaged name damage) f failed (are_few, restart_failed (status.Damaged name damage) f may read (quiet (λ e. cc)) (last (λ e. cc)) failed)
+  ran_failed status.Worn may quiet sunk last f formed read failed =
+      ran_restart status.Worn f failed (are_few, restart_failed status.Worn f may read (quiet (λ e. cc)) (last (λ e. cc)) failed)
+  ran_failed status.Done may quiet sunk last f formed read failed = absurd failed
+  ran_failed status.Words may quiet sunk last f formed read failed = absurd failed
+  ran_failed (status.Malformed at) may quiet sunk last f formed read failed = absurd failed
+  ran_failed status.Early may quiet sunk last f formed read failed = absurd failed
+  ran_failed status.SourceFault may quiet sunk last f formed read failed = absurd failed
+  ran_failed status.Long may quiet sunk last f formed read failed = absurd failed
+  ran_failed status.Settings may quiet sunk last f formed read failed = absurd failed
 
   -- a run that stops, whatever for
-  pub ran_stopped : (why : Stop) (v : Status) → ((why ≡ stop.Failed status.SinkFault → ⊥) → y ≡ x) → StoppedBy g why of s1 s2 (record { had = l1; left = l2 }) got → Finishes why place v finished → RanOn g s s2 v source sink
-  ran_stopped stop.End v quiet by fin = ran_done v by fin
-  ran_stopped stop.Malformed v quiet by fin = ran_malformed v (quiet (λ e. cc)) by fin
-  ran_stopped stop.Early v quiet by fin = ran_early v (quiet (λ e. cc)) by fin
-  ran_stopped stop.SourceFault v quiet by fin = ran_source v (quiet (λ e. cc)) by fin
-  ran_stopped (stop.Failed how) v quiet by fin =
+  pub ran_stopped : (why : Stop) (v : Status) → MayStop why going.state → ((why ≡ stop.Failed status.SinkFault → ⊥) → y ≡ x) → StoppedBy g why of s1 s2 (record { had = l1; left = l2 }) got → Finishes why place v finished → RanOn g s s2 v source sink
+  ran_stopped stop.End v may quiet by fin = ran_done v by fin
+  ran_stopped stop.Malformed v may quiet by fin = ran_malformed v (quiet (λ e. cc)) by fin
+  ran_stopped stop.Early v may quiet by fin = ran_early v (quiet (λ e. cc)) by fin
+  ran_stopped stop.SourceFault v may quiet by fin = ran_source v (quiet (λ e. cc)) by fin
+  ran_stopped (stop.Failed how) v may quiet by fin =
       ran_as g s s2 v how source sink fin.0
-      (ran_failed how (λ other. quiet (λ e. other cc)) (λ e. (fin.1 e).0) fin.2 by.0 by.1 by.2 by.3)
+      (ran_failed how may (λ other. quiet (λ e. other cc)) (λ e. (fin.1 e).0) fin.2 by.0 by.1 by.2 by.3)
 
 -- a run that reads as many frames as it may
 pub ran_long : {S : Type 0} (g : Ghosts S) (told : Bool) (found : Found) (of : WorldView) (s s0 s1 : S) (had l0 l1 before g0 g1 g2 : Option (List ℕ)) (place count x y z : ℕ) → Opened g s s0 found → Had had l0 magic

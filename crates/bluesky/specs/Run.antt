@@ -18,7 +18,7 @@ use Rattle.sky_world.specs.Finding as step
 use Rattle.sky_world.specs.Finding.{FindsPrefix, floor_of, reached}
 use Rattle.sky_world.specs.Laws.{NoneOutOfMemory}
 use Rattle.sky_world.specs.Meaning.{State, Kept, Absent, Memory as Supply, Ample, Scarce, start, opening, session_at, Step, Steps}
-use Rattle.sky_world.specs.Opening.{IsRefusedAs, LeavesRefusedAs}
+use Rattle.sky_world.specs.Opening.{IsRefusedAs, LeavesRefusedAs, MayRefuse}
 use Rattle.sky_world.specs.World.{IsRestart, tells}
 
 -- how many frames a recording may have, the end among them
@@ -157,10 +157,12 @@ pub data SinkFailed (source : SourceUse) (sink : SinkUse) (found : Found) (frame
   at_end : floor ≡ last.kept.mark → reached ≡ last.kept → Took source (recording frames (in_frame End)) → GaveUpTo sink (session_bytes found answers) (out_frame (Ended Done))
       → SinkFailed source sink found frames answers last floor reached
 
--- A restart, which was read last, came to no end, and the run ended with this status: all that was written before it was given.
+-- A restart, which was read last, came to no end, and the run ended with this status, which such a restart may be refused with: a site that tells what
+-- it has is refused for nothing but that no epoch is left. All that was written before it was given.
 pub record RestartFailed (source : SourceUse) (sink : SinkUse) (found : Found) (frames : List InFrame) (answers : List OutFrame) (last : State) (status : Status) (floor : ℕ) (reached : Kept) : Type 0 where
   pub f : InFrame
   pub restart : IsRestart f
+  pub cause : MayRefuse status last
   pub floor_is : floor ≡ floor_of f last
   pub reached_is : reached ≡ last.kept
   pub took : Took source (recording frames (in_frame f))

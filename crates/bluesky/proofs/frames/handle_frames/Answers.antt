@@ -53,7 +53,8 @@ returns-in-Err-clause-ran g c =
     ran_stopped g.P.Storage told found c.loop.world s c.args.site.now c.loop.site n.site had (left c.args.source.now) (left c.loop.source) (left n.source)
     before (written c.args.sink.now) (written c.loop.sink) (written n.sink) (written c.finish.new.sink)
     c.loop.place c.loop.counter (faults c.args.sink.now) (faults n.sink) (faults c.finish.new.sink) opened begun given (c.loop.invariant.going told found stands) c.loop-test.true
-    c.in-Err.stop c.finish.result (λ other. c.next_frame.ensures.sink_cause.quiet (other_err _ _ _ c.in-Err.is other) ∙ c.loop.invariant.sink_still) c.in-Err.ensures.stopped c.finish.ensures.finishes
+    c.in-Err.stop c.finish.result (let going = c.loop.invariant.going told found stands in c.in-Err.ensures.refused going.state going.stands)
+    (λ other. c.next_frame.ensures.sink_cause.quiet (other_err _ _ _ c.in-Err.is other) ∙ c.loop.invariant.sink_still) c.in-Err.ensures.stopped c.finish.ensures.finishes
 
 pub returns-in-Err-clause-replayed : goal.returns-in-Err-clause-replayed
 returns-in-Err-clause-replayed g c = stopped_replayed c.in-Err.stop c.loop.place c.finish.result _ c.in-Err.ensures.statuses c.finish.ensures.finishes
