@@ -13,7 +13,7 @@ use Rattle.sky_outside.specs.Told.{HadPart, Given, GivenPart}
 use Rattle.sky_outside.specs.declared.storage.Storage.{Ghosts}
 use Rattle.sky_outside.proofs.ToldLaws.{Given-then}
 use Rattle.sky_recover.specs.Opening.{Found, IsFoundOn, LeavesFound, WhereBothTold}
-use Rattle.sky_script.specs.Frame.{out_frame, magic}
+use Rattle.sky_script.specs.Frame.{InFrame, out_frame, magic}
 use Rattle.sky_script.specs.Beginning.{HadSome}
 use Rattle.sky_script.specs.declared.reading.FrameFault.{FrameFault}
 use Rattle.sky_script.specs.declared.reading.FrameFault.TheVariants as fault
@@ -21,7 +21,7 @@ use Rattle.sky_world.specs.Meaning.{kept_of, opening, start}
 use Rattle.sky_world.specs.Opening.{IsOfOpening, IsRefusedAs, LeavesRefusedAs}
 use Rattle.sky_world.specs.World.{tells}
 use Rattle.sky_world.proofs.FindingLaws.{both_told_from}
-use Rattle.bluesky.specs.Run.{SourceUse, SinkUse, other_magic, within_magic, GaveEnding, GaveUnopened, IsOfDamage, SinkCounts, at_opening, EndsBy, Ran, RanOn, RanUnopened, area_size, session_bytes, volume}
+use Rattle.bluesky.specs.Run.{SourceUse, SinkUse, other_magic, within_magic, GaveEnding, GaveUnopened, IsOfDamage, SinkCounts, at_opening, EndsBy, QuietBefore, Ran, RanOn, RanUnopened, area_size, session_bytes, volume}
 use Rattle.bluesky.specs.Stop.{status_of, NoMagic, IsShort}
 use Rattle.bluesky.proofs.Going.{nothing_handled, session-nothing}
 use Rattle.bluesky.proofs.Leaving.{opened_run}
@@ -129,11 +129,15 @@ of_not_done v (inr sink) is = absurd cc
 
 -- ---- a run that handled no frame
 
+abbrev no_frames : List InFrame
+no_frames = []
+
 -- from s to t the site was opened, which found this; then the source was left so, and the sink was given this
 module _ {S : Type 0} (g : Ghosts S) (s t : S) (found : Found) (on : IsFoundOn g volume area_size s found) (leaves : LeavesFound g volume area_size s t) where
   ran_none : (v : Status) (source : SourceUse) (sink : SinkUse)
-      → EndsBy v source sink found [] [] (start (tells g s) found) (history_length found.history) (kept_of found) → RanOn g s t v source sink
-  ran_none v source sink ends = record {
+      → EndsBy v source sink found [] [] (start (tells g s) found) (history_length found.history) (kept_of found)
+      → ((v ≡ status.SinkFault) × (no_frames ≡ no_frames)) ⊎ QuietBefore g s (start (tells g s) found) → RanOn g s t v source sink
+  ran_none v source sink ends quiet = record {
     found = found;
     frames = [];
     answers = [];
@@ -143,6 +147,7 @@ module _ {S : Type 0} (g : Ghosts S) (s t : S) (found : Found) (on : IsFoundOn g
     opened = on;
     handled = nothing_handled (start (tells g s) found);
     ends = ends;
+    quiet = quiet;
     leaves = opened_run g s t found (start (tells g s) found) on leaves;
   }
 
@@ -151,28 +156,28 @@ module _ {S : Type 0} (g : Ghosts S) (s t : S) (found : Found) (on : IsFoundOn g
       → RanOn g s t status.SinkFault (record { had = had; left = had }) (record { before = before; after = after; faults_before = x; faults_after = z })
   ran_cut had before mid after x z given part =
       ran_none status.SinkFault (record { had = had; left = had }) (record { before = before; after = after; faults_before = x; faults_after = z })
-      (omega arith, at_opening refl refl refl refl (part_then before mid after x z magic (out_frame (opening found)) given part))
+      (omega arith, at_opening refl refl refl refl (part_then before mid after x z magic (out_frame (opening found)) given part)) (inl (refl, refl))
 
   -- the source doesn't begin with the magic
   pub ran_otherwise : (f : FrameFault) (v : Status) (had left before after : Option (List ℕ)) (x z : ℕ) → v ≡ status_of f → NoMagic f had left
       → GaveEnding (record { before = before; after = after; faults_before = x; faults_after = z }) (session_bytes found []) (status_of f)
-      → RanOn g s t v (record { had = had; left = left }) (record { before = before; after = after; faults_before = x; faults_after = z })
-  ran_otherwise fault.Malformed v had left before after x z is none ending =
+      → QuietBefore g s (start (tells g s) found) → RanOn g s t v (record { had = had; left = left }) (record { before = before; after = after; faults_before = x; faults_after = z })
+  ran_otherwise fault.Malformed v had left before after x z is none ending quiet =
       let source : SourceUse = record { had = had; left = left } in
       let sink : SinkUse = record { before = before; after = after; faults_before = x; faults_after = z } in
       ran_as g s t v (status.Malformed 0) source sink is
-      (ran_none (status.Malformed 0) source sink ((omega arith, other_magic none.0 refl refl none.1.0 none.1.1 none.2), ending, (refl, refl)))
-  ran_otherwise fault.Early v had left before after x z is none ending =
+      (ran_none (status.Malformed 0) source sink ((omega arith, other_magic none.0 refl refl none.1.0 none.1.1 none.2), ending, (refl, refl)) (inr quiet))
+  ran_otherwise fault.Early v had left before after x z is none ending quiet =
       let source : SourceUse = record { had = had; left = left } in
       let sink : SinkUse = record { before = before; after = after; faults_before = x; faults_after = z } in
       let some = none.0 in
       ran_as g s t v status.Early source sink is
-      (ran_none status.Early source sink ((omega arith, within_magic some.0 refl some.1 some.2, none.1), ending, (refl, refl)))
-  ran_otherwise fault.SourceFault v had left before after x z is none ending =
+      (ran_none status.Early source sink ((omega arith, within_magic some.0 refl some.1 some.2, none.1), ending, (refl, refl)) (inr quiet))
+  ran_otherwise fault.SourceFault v had left before after x z is none ending quiet =
       let source : SourceUse = record { had = had; left = left } in
       let sink : SinkUse = record { before = before; after = after; faults_before = x; faults_after = z } in
       ran_as g s t v status.SourceFault source sink is
-      (ran_none status.SourceFault source sink (omega arith, within_magic none.0 refl none.1 none.2, ending, (refl, refl)))
+      (ran_none status.SourceFault source sink (omega arith, within_magic none.0 refl none.1 none.2, ending, (refl, refl)) (inr quiet))
 
 -- from another count of its sink's faults, which is the same
 pub ran_counted : {S : Type 0} (g : Ghosts S) (s t : S) (v : Status) (source : SourceUse) (before after : Option (List ℕ)) (x y z : ℕ) → y ≡ x

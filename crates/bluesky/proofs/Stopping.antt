@@ -21,7 +21,7 @@ use Rattle.sky_world.specs.World as world
 use Rattle.sky_world.specs.World.{WorldView, SinkGot, SteppedDown, StandsFor, tells}
 use Rattle.sky_world.specs.declared.sessions.Session.{Session}
 use Rattle.sky_world.specs.declared.sessions.Session.TheVariants as slot
-use Rattle.bluesky.specs.Run.{frame_limit, Handled, IsOfDamage, IsReplayed, SourceUse, SinkUse, no_frame, within_frame, GaveUpTo, GaveEnding, SinkCounts, at_answer, at_end, RestartFailed, RecordFailed, BeginFailed, EndsBy, LeavesOfRun, RanOn, session_bytes}
+use Rattle.bluesky.specs.Run.{frame_limit, Handled, IsOfDamage, IsReplayed, SourceUse, SinkUse, no_frame, within_frame, GaveUpTo, GaveEnding, SinkCounts, QuietBefore, at_answer, at_end, RestartFailed, RecordFailed, BeginFailed, EndsBy, LeavesOfRun, RanOn, session_bytes}
 use Rattle.bluesky.specs.Stop.{IsStop, MayStop, Opened, StoppedBy, Finishes}
 use Rattle.bluesky.specs.declared.frames.Stop.{Stop}
 use Rattle.bluesky.specs.declared.frames.Stop.TheVariants as stop
@@ -76,13 +76,24 @@ absent_stands slot.Absent meaning.Closed is stands = absurd stands
 absent_stands (slot.Open received) theirs is stands = absurd cc
 absent_stands (slot.Closed received) theirs is stands = absurd cc
 
+-- no call of the site failed in the opening, nor in the frames that were handled
+quiet_before : {S : Type 0} (g : Ghosts S) (told : Bool) (found : Found) (of : WorldView) (s s0 s1 : S) (l0 l1 g0 g1 : Option (List ℕ)) (place count : ℕ) → Opened g s s0 found
+    → (going : Going g told found of s0 s1 l0 l1 g0 g1 place count) → g.disk_faults s1 ≡ g.disk_faults s0 → g.cloud_faults s1 ≡ g.cloud_faults s0 → QuietBefore g s going.state
+quiet_before g told found of s s0 s1 l0 l1 g0 g1 place count opened going disk cloud = record {
+  world = of;
+  site = s1;
+  stands = going.stands;
+  disk = disk ∙ opened.disk;
+  cloud = cloud ∙ opened.cloud;
+}
+
 -- ---- a run that stops
 
 -- The site was s at the beginning, s0 when the frames began, s1 before the last call, and s2 behind it. The source was left at l0, l1
 -- and l2 then; the sink was given g0, g1, g2 then, and g3 at the end. Its count was x up to that call, y behind it, and z at the end.
 module _ {S : Type 0} (g : Ghosts S) (told : Bool) (found : Found) (of : WorldView) (s s0 s1 s2 : S) (had l0 l1 l2 before g0 g1 g2 g3 : Option (List ℕ)) (place count x y z : ℕ)
     (opened : Opened g s s0 found) (begun : Had had l0 magic) (given : Given before g0 (session_bytes found []))
-    (going : Going g told found of s0 s1 l0 l1 g0 g1 place count) (few : count < frame_limit) where
+    (going : Going g told found of s0 s1 l0 l1 g0 g1 place count) (few : count < frame_limit) (disk : g.disk_faults s1 ≡ g.disk_faults s0) (cloud : g.cloud_faults s1 ≡ g.cloud_faults s0) where
   abbrev source : SourceUse
   source = record { had = had; left = l2 }
 
@@ -112,6 +123,7 @@ module _ {S : Type 0} (g : Ghosts S) (told : Bool) (found : Found) (of : WorldVi
         opened = opened.found_on;
         handled = subst (λ (b : Bool). Handled Scarce (start b found) going.frames going.answers going.state) same going.handled;
         ends = ends;
+        quiet = inr (quiet_before g told found of s s0 s1 l0 l1 g0 g1 place count opened going disk cloud);
         leaves = subst (λ (b : Bool). LeavesOfRun g s s2 (start b found) going.frames floor reached) same leaves;
       }
 
@@ -288,10 +300,11 @@ module _ {S : Type 0} (g : Ghosts S) (told : Bool) (found : Found) (of : WorldVi
 
 -- a run that reads as many frames as it may
 pub ran_long : {S : Type 0} (g : Ghosts S) (told : Bool) (found : Found) (of : WorldView) (s s0 s1 : S) (had l0 l1 before g0 g1 g2 : Option (List ℕ)) (place count x y z : ℕ) → Opened g s s0 found → Had had l0 magic
-    → Given before g0 (session_bytes found []) → Going g told found of s0 s1 l0 l1 g0 g1 place count → count ≡ frame_limit → y ≡ x
+    → Given before g0 (session_bytes found []) → Going g told found of s0 s1 l0 l1 g0 g1 place count → g.disk_faults s1 ≡ g.disk_faults s0 → g.cloud_faults s1 ≡ g.cloud_faults s0
+    → count ≡ frame_limit → y ≡ x
     → GaveEnding (record { before = g1; after = g2; faults_before = y; faults_after = z }) [] status.Long
     → RanOn g s s1 status.Long (record { had = had; left = l1 }) (record { before = before; after = g2; faults_before = x; faults_after = z })
-ran_long g told found of s s0 s1 had l0 l1 before g0 g1 g2 place count x y z opened begun given going all quiet last =
+ran_long g told found of s s0 s1 had l0 l1 before g0 g1 g2 place count x y z opened begun given going disk cloud all quiet last =
     let same : told ≡ tells g s = going.told_then ∙ opened.tells in
     let floor : ℕ = going.state.kept.mark in
     record {
@@ -308,6 +321,7 @@ ran_long g told found of s s0 s1 had l0 l1 before g0 g1 g2 place count x y z ope
         ending_then before g1 g2 x y z (session_bytes found going.answers) status.Long quiet (given_so_far found before g0 g1 going.answers given going.written) last,
         (refl, refl),
       );
+      quiet = inr (quiet_before g told found of s s0 s1 l0 l1 g0 g1 place count opened going disk cloud);
       leaves = subst (λ (b : Bool). LeavesOfRun g s s1 (start b found) going.frames floor going.state.kept) same (leaves_still g told found of s s0 s1 l0 l1 g0 g1 place count opened going);
     }
 

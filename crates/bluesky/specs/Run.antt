@@ -19,7 +19,7 @@ use Rattle.sky_world.specs.Finding.{FindsPrefix, floor_of, reached}
 use Rattle.sky_world.specs.Laws.{NoneOutOfMemory}
 use Rattle.sky_world.specs.Meaning.{State, Kept, Absent, Memory as Supply, Ample, Scarce, start, opening, session_at, Step, Steps}
 use Rattle.sky_world.specs.Opening.{IsRefusedAs, LeavesRefusedAs, MayRefuse}
-use Rattle.sky_world.specs.World.{IsRestart, tells}
+use Rattle.sky_world.specs.World.{IsRestart, Stands, WorldView, tells}
 
 -- how many frames a recording may have, the end among them
 abbrev pub frame_limit : ℕ
@@ -223,8 +223,17 @@ EndsBy Worn source sink found frames answers last floor reached = AreFew frames 
 EndsBy Words source sink found frames answers last floor reached = ⊥
 EndsBy Settings source sink found frames answers last floor reached = ⊥
 
+-- Up to a site on which a world stands for this state, the counts of faults were what they were at s: no call of its devices had failed.
+pub record QuietBefore {S : Type 0} (g : Ghosts S) (s : S) (state : State) : Type 0 where
+  pub world : WorldView
+  pub site : S
+  pub stands : Stands g world site state
+  pub disk : g.disk_faults site ≡ g.disk_faults s
+  pub cloud : g.cloud_faults site ≡ g.cloud_faults s
+
 -- A run from s to t that opened the site, and ended with this status: it handled these frames of what the source had, gave the sink all their
--- answers, and then ended so. For some of the calls there may have been no memory. No crash loses a change that was stable.
+-- answers, and then ended so. For some of the calls there may have been no memory. No crash loses a change that was stable. A call
+-- of the site that failed is one of the last step: none failed before it, but where the sink failed at the frame of the opening.
 pub record RanOn {S : Type 0} (g : Ghosts S) (s t : S) (status : Status) (source : SourceUse) (sink : SinkUse) : Type 0 where
   pub found : Found
   pub frames : List InFrame
@@ -235,6 +244,7 @@ pub record RanOn {S : Type 0} (g : Ghosts S) (s t : S) (status : Status) (source
   pub opened : IsFoundOn g volume area_size s found
   pub handled : Handled Scarce (start (tells g s) found) frames answers last
   pub ends : EndsBy status source sink found frames answers last floor reached
+  pub quiet : ((status ≡ SinkFault) × (frames ≡ [])) ⊎ QuietBefore g s last
   pub leaves : LeavesOfRun g s t (start (tells g s) found) frames floor reached
 
 -- what was written by a run that did not open its site: nothing, where the words or the settings were refused; or the magic, and the last frame

@@ -17,12 +17,15 @@ use Rattle.bluesky.specs.Run.{SourceUse, Took, SinkUse, Gave, GaveUpTo, GaveEndi
 use Rattle.bluesky.specs.declared.frames.Stop.{Stop}
 use Rattle.bluesky.specs.declared.frames.Stop.TheVariants.{End, Malformed, Early, SourceFault, Failed}
 
--- From s to t a site was opened, which found this: recovery finds the same at each moment, and the site tells as much as before.
+-- From s to t a site was opened, which found this: recovery finds the same at each moment, the site tells as much as before, and no call of its
+-- devices failed.
 pub record Opened {S : Type 0} (g : Ghosts S) (s t : S) (found : Found) : Type 0 where
   pub size : g.bytes_of t ≡ g.bytes_of s
   pub found_on : IsFoundOn g volume area_size s found
   pub leaves : LeavesFound g volume area_size s t
   pub tells : tells g t ≡ tells g s
+  pub disk : g.disk_faults t ≡ g.disk_faults s
+  pub cloud : g.cloud_faults t ≡ g.cloud_faults s
 
 -- why a fault of a frame stops a run
 abbrev pub stop_of : FrameFault → Stop

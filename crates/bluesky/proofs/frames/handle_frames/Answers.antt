@@ -52,7 +52,7 @@ returns-in-Err-clause-ran g c =
     let faults = g.K.Sink.faults in
     ran_stopped g.P.Storage told found c.loop.world s c.args.site.now c.loop.site n.site had (left c.args.source.now) (left c.loop.source) (left n.source)
     before (written c.args.sink.now) (written c.loop.sink) (written n.sink) (written c.finish.new.sink)
-    c.loop.place c.loop.counter (faults c.args.sink.now) (faults n.sink) (faults c.finish.new.sink) opened begun given (c.loop.invariant.going told found stands) c.loop-test.true
+    c.loop.place c.loop.counter (faults c.args.sink.now) (faults n.sink) (faults c.finish.new.sink) opened begun given (c.loop.invariant.going told found stands) c.loop-test.true c.loop.invariant.disk_still c.loop.invariant.cloud_still
     c.in-Err.stop c.finish.result (let going = c.loop.invariant.going told found stands in c.in-Err.ensures.refused going.state going.stands)
     (λ other. c.next_frame.ensures.sink_cause.quiet (other_err _ _ _ c.in-Err.is other) ∙ c.loop.invariant.sink_still) c.in-Err.ensures.stopped c.finish.ensures.finishes
 
@@ -100,7 +100,7 @@ returns-clause-ran g c =
     let all : c.loop.counter ≡ frame_limit = omega arith in
     ran_as g.P.Storage s c.loop.site c.end_with.result status.Long _ _ c.end_with.ensures.status
     (ran_long g.P.Storage told found c.loop.world s c.args.site.now c.loop.site had (left c.args.source.now) (left c.loop.source) before (written c.args.sink.now) (written c.loop.sink) (written c.end_with.new.sink)
-    c.loop.place c.loop.counter (faults c.args.sink.now) (faults c.loop.sink) (faults c.end_with.new.sink) opened begun given (c.loop.invariant.going told found stands) all c.loop.invariant.sink_still c.end_with.ensures.gave)
+    c.loop.place c.loop.counter (faults c.args.sink.now) (faults c.loop.sink) (faults c.end_with.new.sink) opened begun given (c.loop.invariant.going told found stands) c.loop.invariant.disk_still c.loop.invariant.cloud_still all c.loop.invariant.sink_still c.end_with.ensures.gave)
 
 pub returns-clause-refused : goal.returns-clause-refused
 returns-clause-refused g c = λ told found stands is damage. subst IsOfDamage c.end_with.ensures.status damage

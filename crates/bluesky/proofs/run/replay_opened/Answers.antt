@@ -18,3 +18,4 @@ returns-clause-ran g c =
     (faults sink) (faults ended.new.sink) (ended.ensures.status ∙ c.magic_status.ensures) c.in-Err.ensures.none
     (ending_then before (written sink) (written ended.new.sink) (faults sink) (faults sink) (faults ended.new.sink) (session_bytes found []) (status_of why) refl given
     (gave_as behind [] c.magic_status.result (status_of why) c.magic_status.ensures ended.ensures.gave))
+    (record { world = c.args.world; site = c.args.site.now; stands = stands; disk = opened.disk; cloud = opened.cloud })
