@@ -124,6 +124,7 @@ fn write_called<D: Disk>(
     ensures size { D.bytes_of disk.new ≡ D.bytes_of disk.old }
     ensures cause { Counts (D.disk_faults disk.old) (D.disk_faults disk.new) (IsErr result) }
     ensures cloud { D.cloud_faults disk.new ≡ D.cloud_faults disk.old }
+    ensures objects { D.objects disk.new ≡ D.objects disk.old }
 {
     match service.answer(disk, change) {
         Outcome::Done(answer) => Ok(write_success(xid, &answer, buf)),
@@ -153,6 +154,7 @@ fn write_message<D: Disk>(
     ensures size { D.bytes_of disk.new ≡ D.bytes_of disk.old }
     ensures cause { Counts (D.disk_faults disk.old) (D.disk_faults disk.new) (IsErr result) }
     ensures cloud { D.cloud_faults disk.new ≡ D.cloud_faults disk.old }
+    ensures objects { D.objects disk.new ≡ D.objects disk.old }
 {
     match message {
         Message::Close => Ok(None),
@@ -196,6 +198,7 @@ fn write_reply_to<D: Disk>(
     ensures size { D.bytes_of disk.new ≡ D.bytes_of disk.old }
     ensures cause { Counts (D.disk_faults disk.old) (D.disk_faults disk.new) (IsErr result) }
     ensures cloud { D.cloud_faults disk.new ≡ D.cloud_faults disk.old }
+    ensures objects { D.objects disk.new ≡ D.objects disk.old }
 {
     let message = read_message(alloc, text);
     write_message(service, disk, message, buf)
@@ -219,6 +222,7 @@ fn write_reply_behind<D: Disk>(
     ensures size { D.bytes_of disk.new ≡ D.bytes_of disk.old }
     ensures cause { Counts (D.disk_faults disk.old) (D.disk_faults disk.new) (IsErr result) }
     ensures cloud { D.cloud_faults disk.new ≡ D.cloud_faults disk.old }
+    ensures objects { D.objects disk.new ≡ D.objects disk.old }
 {
     write_reply_to(alloc, service, disk, text, &mut buf[HEADER_ROOM..])
 }
@@ -275,6 +279,7 @@ impl ReplyBuf {
         ensures size { D.bytes_of disk.new ≡ D.bytes_of disk.old }
         ensures cause { Counts (D.disk_faults disk.old) (D.disk_faults disk.new) (IsErr result) }
         ensures cloud { D.cloud_faults disk.new ≡ D.cloud_faults disk.old }
+        ensures objects { D.objects disk.new ≡ D.objects disk.old }
     {
         match write_reply_behind(alloc, service, disk, text, &mut self.bytes) {
             Ok(wrote) => Ok(wrote),

@@ -120,6 +120,7 @@ impl Service {
         ensures down { self.new.journal.down ≡ is_down result }
         ensures cause { Counts (D.disk_faults disk.old) (D.disk_faults disk.new) (IsTrue (is_down result)) }
         ensures cloud { D.cloud_faults disk.new ≡ D.cloud_faults disk.old }
+        ensures objects { D.objects disk.new ≡ D.objects disk.old }
     {
         self.files.facts();
         let outcome = self.files.change(disk, self.epoch, change);
@@ -136,6 +137,7 @@ impl Service {
         ensures down { self.new.journal.down ≡ is_down result }
         ensures cause { Counts (D.disk_faults disk.old) (D.disk_faults disk.new) (IsTrue (is_down result)) }
         ensures cloud { D.cloud_faults disk.new ≡ D.cloud_faults disk.old }
+        ensures objects { D.objects disk.new ≡ D.objects disk.old }
     {
         self.files.facts();
         let Ok(answer) = self
@@ -167,6 +169,7 @@ impl Service {
         ensures down { self.new.journal.down ≡ is_down result }
         ensures cause { Counts (D.disk_faults disk.old) (D.disk_faults disk.new) (IsTrue (is_down result)) }
         ensures cloud { D.cloud_faults disk.new ≡ D.cloud_faults disk.old }
+        ensures objects { D.objects disk.new ≡ D.objects disk.old }
     {
         if change.call.changes() {
             self.change(disk, change)

@@ -58,6 +58,7 @@ fn answer_record<D: Disk, K: Sink>(
     ensures size { D.bytes_of disk.new ≡ D.bytes_of disk.old }
     ensures disk_cause { Counts (D.disk_faults disk.old) (D.disk_faults disk.new) (IsErrOf result Status.JournalFault) }
     ensures cloud { D.cloud_faults disk.new ≡ D.cloud_faults disk.old }
+    ensures objects { D.objects disk.new ≡ D.objects disk.old }
     ensures cause { Counts (K.faults sink.old) (K.faults sink.new) (IsErrOf result Status.SinkFault) }
 {
     match buf.write(alloc, service, disk, text) {
@@ -103,6 +104,7 @@ fn feed_once<D: Disk, K: Sink>(
     ensures size { D.bytes_of disk.new ≡ D.bytes_of disk.old }
     ensures disk_cause { Counts (D.disk_faults disk.old) (D.disk_faults disk.new) (IsErrOf result Status.JournalFault) }
     ensures cloud { D.cloud_faults disk.new ≡ D.cloud_faults disk.old }
+    ensures objects { D.objects disk.new ≡ D.objects disk.old }
     ensures cause { Counts (K.faults sink.old) (K.faults sink.new) (IsErrOf result Status.SinkFault) }
 {
     let (taken, fed) = assembler.feed(piece);
@@ -151,6 +153,7 @@ fn feed_payload<D: Disk, K: Sink>(
     ensures size { D.bytes_of disk.new ≡ D.bytes_of disk.old }
     ensures disk_cause { Counts (D.disk_faults disk.old) (D.disk_faults disk.new) (IsErrOf result Status.JournalFault) }
     ensures cloud { D.cloud_faults disk.new ≡ D.cloud_faults disk.old }
+    ensures objects { D.objects disk.new ≡ D.objects disk.old }
     ensures cause { Counts (K.faults sink.old) (K.faults sink.new) (IsErrOf result Status.SinkFault) }
 {
     let mut taken = 0;
@@ -338,6 +341,7 @@ impl World {
         ensures size { D.bytes_of disk.new ≡ D.bytes_of disk.old }
         ensures disk_cause { Counts (D.disk_faults disk.old) (D.disk_faults disk.new) (IsErrOf result Status.JournalFault) }
         ensures cloud { D.cloud_faults disk.new ≡ D.cloud_faults disk.old }
+        ensures objects { D.objects disk.new ≡ D.objects disk.old }
         ensures cause { Counts (K.faults sink.old) (K.faults sink.new) (IsErrOf result Status.SinkFault) }
     {
         match self.sessions.take(session) {
@@ -378,6 +382,7 @@ impl World {
         ensures size { D.bytes_of disk.new ≡ D.bytes_of disk.old }
         ensures disk_cause { Counts (D.disk_faults disk.old) (D.disk_faults disk.new) (IsErrOf result Status.JournalFault) }
         ensures cloud { D.cloud_faults disk.new ≡ D.cloud_faults disk.old }
+        ensures objects { D.objects disk.new ≡ D.objects disk.old }
         ensures cause { Counts (K.faults sink.old) (K.faults sink.new) (IsErrOf result Status.SinkFault) }
     {
         let (service, buf) = (&mut self.service, &mut self.buf);
@@ -522,6 +527,7 @@ impl World {
         ensures unchanged { IsErrOf result Status.Memory → (IsRestart (frame_of frame.now) → ⊥) → self.new ≡ self.old }
         ensures refused { IfErr result (λ status. (state : State) → Stands S.Storage self.old site.old state → MayRefuse status state) }
         ensures untouched { frame_of frame.now ≡ frames.Restart → IfErr result (LeavesRefusedAs S.Storage site.old site.new) }
+        ensures objects { (IsRestart (frame_of frame.now) → ⊥) → S.objects site.new ≡ S.objects site.old }
         ensures statuses { IfErr result (λ status. IsOfOpening status ⊎ (status ≡ Status.SinkFault)) }
         ensures size { S.bytes_of site.new ≡ S.bytes_of site.old }
         ensures disk_cause { Counts (S.disk_faults site.old) (S.disk_faults site.new) (IsErrOf result Status.JournalFault) }
@@ -585,6 +591,8 @@ impl World {
         // A restart refuses no site that tells what it has, unless no epoch is left. What it refuses for what it has is left as it was.
         ensures refused { IfErr result (λ status. (state : State) → Stands S.Storage self.old site.old state → MayRefuse status state) }
         ensures untouched { frame_of frame.now ≡ frames.Restart → IfErr result (LeavesRefusedAs S.Storage site.old site.new) }
+        // No frame but a restart touches the cloud.
+        ensures objects { (IsRestart (frame_of frame.now) → ⊥) → S.objects site.new ≡ S.objects site.old }
         ensures statuses { IfErr result (λ status. IsOfOpening status ⊎ (status ≡ Status.SinkFault)) }
         ensures ended { self.new.ended ≡ is_err result }
         ensures size { S.bytes_of site.new ≡ S.bytes_of site.old }

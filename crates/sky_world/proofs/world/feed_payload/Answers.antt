@@ -12,6 +12,7 @@ loop-taken-init g c = record {
   quiet = refl;
   still = refl;
   cloud = refl;
+  objects = refl;
 }
 
 pub loop-taken-preserved : goal.loop-taken-preserved
@@ -27,6 +28,7 @@ loop-taken-preserved g c =
       quiet = c.in-Ok.ensures.cause.quiet (λ e. absurd cc) ∙ l.invariant.quiet;
       still = c.in-Ok.ensures.disk_cause.quiet (λ e. absurd cc) ∙ l.invariant.still;
       cloud = c.in-Ok.ensures.cloud ∙ l.invariant.cloud;
+      objects = c.in-Ok.ensures.objects ∙ l.invariant.objects;
     }
 
 pub returns-then-not-stays-clause-ok : goal.returns-then-not-stays-clause-ok

@@ -11,6 +11,7 @@ invariant-loop-taken g l = record {
   quiet : g.K.Sink.faults l.sink ≡ g.K.Sink.faults l.initial.sink;
   still : g.D.Storage.disk_faults l.disk ≡ g.D.Storage.disk_faults l.initial.disk;
   cloud : g.D.Storage.cloud_faults l.disk ≡ g.D.Storage.cloud_faults l.initial.disk;
+  objects : g.D.Storage.objects l.disk ≡ g.D.Storage.objects l.initial.disk;
 }
 
 abbrev pub decreases-loop-taken : goal.decreases-loop-taken
