@@ -1,6 +1,5 @@
 mod Endings
 mod Comparing
-mod Completing
 mod OneReading
 pub mod Existing
 mod Sites

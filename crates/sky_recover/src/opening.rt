@@ -119,7 +119,7 @@ fn continue_from<D: Disk>(
 /// change could not be done again; `DiskFault` where an area could not be closed or opened. `DiskFault` and `CloudFault` come only where that count of
 /// faults rose.
 ///
-/// A stop at any moment of it leaves what recovery finds as it was, and never a smaller next epoch.
+/// A stop at any moment of it leaves what recovery finds as it was.
 pub fn recover<S: Site>(
     alloc: Global,
     site: &mut S,

@@ -17,7 +17,7 @@ use Rattle.sky_outside.specs.declared.storage.Storage.{Ghosts}
 use Rattle.sky_outside.proofs.MomentLaws.{only_read}
 use Rattle.sky_outside.proofs.ToldLaws.{WhereTold-at, WhereTold-from}
 use Rattle.sky_recover.specs.Opening.{WhereBothTold}
-use Rattle.sky_sound.specs.Cloud.{HasNoCheckpoint, checkpoint_in, cloud_tree, covers_of}
+use Rattle.sky_sound.specs.Cloud.{checkpoint_in, cloud_tree, covers_of}
 use Rattle.sky_sound.specs.Entries.{change_of, changes_in, entries_above, is_of_change, journal_of, with_change}
 use Rattle.sky_sound.specs.Recovery.{FindsSame, IsSound, Recovered, history_from, history_of}
 use Rattle.sky_sound.proofs.Above.{above_yes, history_is, history_recovered}
@@ -81,7 +81,7 @@ legal_cut n history legal = record { valid = legal.valid; done = done_take (n - 
 
 -- The objects of a cloud that ends where the history begins, and has no checkpoint of the proxy.
 pub record Begins (kept : Kept) (objects : CloudMap) : Type 0 where
-  pub no_checkpoint : HasNoCheckpoint objects
+  pub no_checkpoint : checkpoint_in objects ≡ None
   pub covers : kept.history.before ≡ covers_of objects
   pub tree : kept.history.tree ≡ cloud_tree kept.journal.volume objects
 

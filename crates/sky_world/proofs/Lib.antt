@@ -17,6 +17,7 @@ pub mod FeedLaws
 pub mod ReplyLaws
 pub mod PayloadLaws
 pub mod FindingLaws
+pub mod OnceLaws
 pub mod ReopenLaws
 pub mod WipeLaws
 pub mod RefuseLaws
