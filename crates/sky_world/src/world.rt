@@ -265,6 +265,7 @@ impl World {
         ensures world { IfOk result (λ world. (found : Found) × IsFoundOn S.Storage settings.volume settings.journal_area site.old found
             × Stands S.Storage world site.new (started (tells S.Storage site.old) found)
             × Given (K.written sink.old) (K.written sink.new) (out_frame (opening found))) }
+        ensures settings { IfOk result (λ world. world.settings ≡ settings) }
         ensures going { IfOk result (λ world. world.ended ≡ false) }
         ensures serving { IfOk result (λ world. IsServing S.Storage world.service site.new) }
         ensures unwritten { IfErr result (λ status. IsOfOpening status → sink.new ≡ sink.old) }
