@@ -32,32 +32,32 @@ behind_magic frames next rest =
     append_assoc (magic ++ in_frames frames) next rest ∙ append_assoc magic (in_frames frames) (next ++ rest)
 
 -- what begins with the magic has its eight bytes, and no others in their place
-magic_whole : (bytes more : List ℕ) → bytes ≡ magic ++ more → 8 ≤ length bytes
+pub magic_whole : (bytes more : List ℕ) → bytes ≡ magic ++ more → 8 ≤ length bytes
 magic_whole bytes more e = rw e (omega arith)
 
-not_other : (bytes more taken rest : List ℕ) → bytes ≡ magic ++ more → bytes ≡ taken ++ rest → length taken ≡ 8 → taken ≢ magic → ⊥
+pub not_other : (bytes more taken rest : List ℕ) → bytes ≡ magic ++ more → bytes ≡ taken ++ rest → length taken ≡ 8 → taken ≢ magic → ⊥
 not_other bytes more taken rest e d long other = other (sym (prefixes_same magic taken more rest (sym long) (sym e ∙ d)).0)
 
 -- ---- where a reading stops
 
 -- where a reading stops behind the magic, by the status that says so, and what it leaves of what stood there
-data StopsAt (frames : List InFrame) (left rest : List ℕ) (status : Status) : Type 0 where
+pub data StopsAt (frames : List InFrame) (left rest : List ℕ) (status : Status) : Type 0 where
   at_end : AreFew frames → left ≡ in_frame End ++ rest → status ≡ Done → StopsAt frames left rest status
   at_refused : AreFew frames → (taken : List ℕ) → IsRefused taken → left ≡ taken ++ rest → status ≡ Malformed (8 + length (in_frames frames)) → StopsAt frames left rest status
   at_cut : AreFew frames → IsCutShort left → rest ≡ [] → status ≡ Early → StopsAt frames left rest status
   at_limit : length frames ≡ frame_limit → left ≡ rest → status ≡ Long → StopsAt frames left rest status
 
 -- where a reading stops: within the magic, at another magic, or behind the magic
-data StopsIn (bytes : List ℕ) (frames : List InFrame) (rest : List ℕ) (status : Status) : Type 0 where
+pub data StopsIn (bytes : List ℕ) (frames : List InFrame) (rest : List ℕ) (status : Status) : Type 0 where
   in_magic : length bytes < 8 → frames ≡ [] → rest ≡ [] → status ≡ Early → StopsIn bytes frames rest status
   no_magic : (taken : List ℕ) → length taken ≡ 8 → taken ≢ magic → bytes ≡ taken ++ rest → frames ≡ [] → status ≡ Malformed 0 → StopsIn bytes frames rest status
   behind : (left : List ℕ) → bytes ≡ magic ++ (in_frames frames ++ left) → StopsAt frames left rest status → StopsIn bytes frames rest status
 
-abbrev told : List ℕ → List ℕ → SourceUse
+abbrev pub told : List ℕ → List ℕ → SourceUse
 told bytes rest = record { had = Some bytes; left = Some rest }
 
 -- what is behind the frames of a recording
-left_is : (bytes rest : List ℕ) (frames : List InFrame) (next : List ℕ) → Took (told bytes rest) (recording frames next) → bytes ≡ magic ++ (in_frames frames ++ (next ++ rest))
+pub left_is : (bytes rest : List ℕ) (frames : List InFrame) (next : List ℕ) → Took (told bytes rest) (recording frames next) → bytes ≡ magic ++ (in_frames frames ++ (next ++ rest))
 left_is bytes rest frames next took = taken_is bytes rest (recording frames next) took ∙ behind_magic frames next rest
 
 stops_refused : (at : ℕ) (bytes : List ℕ) (frames : List InFrame) (rest : List ℕ) → AreFew frames → TookRefused (told bytes rest) frames at → StopsIn bytes frames rest (Malformed at)
@@ -73,7 +73,7 @@ stops_early bytes frames rest few (within_frame taken cut took) empty =
     behind (taken ++ rest) (left_is bytes rest frames taken took) (at_cut few (subst IsCutShort (sym whole) cut) empty refl)
 
 -- where a recording that is read to a status stops
-stops_in : (status : Status) (bytes : List ℕ) (frames : List InFrame) (rest : List ℕ) → ReadTo status (told bytes rest) frames → StopsIn bytes frames rest status
+pub stops_in : (status : Status) (bytes : List ℕ) (frames : List InFrame) (rest : List ℕ) → ReadTo status (told bytes rest) frames → StopsIn bytes frames rest status
 stops_in Done bytes frames rest read = behind (in_frame End ++ rest) (left_is bytes rest frames (in_frame End) read.1) (at_end read.0 refl refl)
 stops_in (Malformed at) bytes frames rest read = stops_refused at bytes frames rest read.0 read.1
 stops_in Early bytes frames rest read = stops_early bytes frames rest read.0 read.1 read.2
@@ -93,7 +93,7 @@ stops_in Worn bytes frames rest read = absurd read
 -- ---- two ways to stop
 
 -- where a reading stops within the limit, none goes on
-stop_not_on : (frames : List InFrame) (left rest : List ℕ) (status : Status) → AreFew frames → StopsAt frames left rest status → GoesOn left → ⊥
+pub stop_not_on : (frames : List InFrame) (left rest : List ℕ) (status : Status) → AreFew frames → StopsAt frames left rest status → GoesOn left → ⊥
 stop_not_on frames left rest status less (at_end few end is) on = end_not_on left rest end on
 stop_not_on frames left rest status less (at_refused few taken refused parts is) on = refused_not_on left taken rest refused parts on
 stop_not_on frames left rest status less (at_cut few cut empty is) on = cut_not_on left cut on
