@@ -70,7 +70,7 @@ reaches mem supply from begun (x ∷ fs) [] f os ps s t r q ok formed steps ok' 
     inr (record { f = x; more = in_frames fs ++ (in_frame f ++ r); formed = ok.0; encoded = sym e ∙ append_assoc (in_frame x) (in_frames fs) (in_frame f ++ r); step = is_step mem from a.0 x a.1 a.3 }, omega arith)
 reaches mem supply from begun (x ∷ fs) (g ∷ gs) f os ps s t r q ok formed steps ok' a b e =
     let whole : in_frame x ++ (in_frames fs ++ (in_frame f ++ r)) ≡ in_frame g ++ (in_frames gs ++ q) =
-        sym (append_assoc (in_frame x) (in_frames fs) (in_frame f ++ r)) ∙ e ∙ append_assoc (in_frame g) (in_frames gs) q in
+    sym (append_assoc (in_frame x) (in_frames fs) (in_frame f ++ r)) ∙ e ∙ append_assoc (in_frame g) (in_frames gs) q in
     let one = frame_same x g (in_frames fs ++ (in_frame f ++ r)) (in_frames gs ++ q) ok.0 ok'.0 whole in
     ⊎_elim
     (λ less. inl (omega (arith, less, ap restarts_by one.0, sum_by-cons restarts_by g gs, sum_by-cons restarts_by x (fs ++ f ∷ []))))
@@ -140,7 +140,7 @@ module _ {S : Type 0} (g : Ghosts S) (settings : Fields) (from to : S) (bytes re
       let claims = steps_claim Scarce c.first c.last c.frames c.answers told_first ran.handled.steps in
       let begins : ran.found.epoch ≡ epoch_after objects = (WhereTold-at (g.objects from) (BeginsAt settings.volume ran.found) objects held ran.opened.cloud).epoch in
       let reached = in_reaches bytes rest more c course Scarce supply end.f status ran.handled ran.ends.0 end.restart reading.handled (left_is bytes rest c.frames (in_frame end.f) end.took)
-          (stops_in status bytes course.frames more reading.read) in
+      (stops_in status bytes course.frames more reading.read) in
       omega (arith, end.cause claims.1, claims.0, ap (λ (s : State). s.epoch) ran.begins, begins, reached, restarts_then c.frames end.f, restart_claims_one end.f end.restart)
 
   pub worn_out : (v : Status) → Ran g settings from to v (told bytes rest) sink → v ≡ Worn → (supply : Supply) (course : Course) (status : Status) (more : List ℕ)

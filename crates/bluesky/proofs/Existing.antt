@@ -188,9 +188,13 @@ none_handled found = record { formed = tt; steps = (refl, refl) }
 
 -- bytes that are no magic, or too few for it
 before_frames : (found : Found) (bytes : List ℕ) → length bytes < 8 → HasReading found bytes
-before_frames found bytes short =
-    (no_course (start true found), Early, [], refl,
-    record { handled = none_handled found; read = (omega arith, within_magic bytes refl short (took bytes bytes [] (sym (append-nil bytes))), refl) })
+before_frames found bytes short = (
+  no_course (start true found),
+  Early,
+  [],
+  refl,
+  record { handled = none_handled found; read = (omega arith, within_magic bytes refl short (took bytes bytes [] (sym (append-nil bytes))), refl) },
+)
 
 no_magic : (found : Found) (bytes : List ℕ) → 8 ≤ length bytes → take 8 bytes ≢ magic → HasReading found bytes
 no_magic found bytes long other =

@@ -57,8 +57,8 @@ restarts_then fs f = omega (arith, sum_by_push restarts_by fs f)
 
 -- epochs were claimed, and then others
 times_then : (n m : ℕ) (objects : CloudMap) → claimed_times n (claimed_times m objects) ≡ claimed_times (n + m) objects
-times_then zero m objects = refl
-times_then (suc n) m objects = ap claimed (times_then n m objects)
+times_then zero m objects = ap (λ (k : ℕ). claimed_times k objects) (let e : m ≡ 0 + m = omega arith in e)
+times_then (suc n) m objects = ap claimed (times_then n m objects) ∙ ap (λ (k : ℕ). claimed_times k objects) (let e : suc (n + m) ≡ suc n + m = omega arith in e)
 
 pub claims_then : (n m : ℕ) (a b c : Option CloudMap) → Claims m a b → Claims n b c → Claims (n + m) a c
 claims_then n m None None None p q = tt
@@ -108,7 +108,7 @@ between_more course f outs new image objects step b = record {
   said = b.said;
   outs = b.outs;
   rest = b.rest ++ outs;
-  answers = ap (λ (x : List OutFrame). x ++ outs) b.answers ∙ append_assoc b.said (b.outs ++ b.rest) outs ∙ ap (λ (x : List OutFrame). b.said ++ x) (append_assoc b.outs b.rest outs);
+  answers = ap (λ (x : List OutFrame). x ++ outs) b.answers ∙ append_assoc (b.said ++ b.outs) b.rest outs;
   old = b.old;
   new = b.new;
   handled = b.handled;
@@ -128,7 +128,7 @@ between_last course f outs new image objects is step left = record {
   said = course.answers;
   outs = outs;
   rest = [];
-  answers = ap (λ (x : List OutFrame). course.answers ++ x) (sym (append-nil outs));
+  answers = sym (append-nil (course.answers ++ outs));
   old = course.last;
   new = new;
   handled = is.steps;

@@ -135,31 +135,31 @@ module _ {S : Type 0} (g : Ghosts S) (settings : Fields) where
 -- ---- a sound site
 
 -- it is refused for nothing that it has
-sound_not_refused : (volume size : ℕ) (v : Status) (image : List ℕ) (objects : CloudMap) → IsSound volume size image objects → IsRefusedAs volume size v image objects → IsOfDamage v → ⊥
-sound_not_refused volume size (status.Foreign at) image objects sound refused damage = sound_unrefused volume size image objects sound ℕ (fault.Foreign at) refused
-sound_not_refused volume size (status.Missing name) image objects sound refused damage = sound_unrefused volume size image objects sound ℕ (fault.Lost (lost.Missing name)) refused
-sound_not_refused volume size (status.Damaged name harm) image objects sound refused damage = sound_unrefused volume size image objects sound ℕ (fault.Lost (lost.Damaged name harm)) refused
-sound_not_refused volume size status.Done image objects sound refused damage = damage
-sound_not_refused volume size status.Words image objects sound refused damage = damage
-sound_not_refused volume size (status.Malformed at) image objects sound refused damage = damage
-sound_not_refused volume size status.Early image objects sound refused damage = damage
-sound_not_refused volume size status.SourceFault image objects sound refused damage = damage
-sound_not_refused volume size status.SinkFault image objects sound refused damage = damage
-sound_not_refused volume size status.JournalFault image objects sound refused damage = damage
-sound_not_refused volume size status.CloudFault image objects sound refused damage = damage
-sound_not_refused volume size status.Memory image objects sound refused damage = damage
-sound_not_refused volume size status.Worn image objects sound refused damage = damage
-sound_not_refused volume size status.Long image objects sound refused damage = damage
-sound_not_refused volume size status.Settings image objects sound refused damage = damage
+sound_not_refused : (number area : ℕ) (v : Status) (image : List ℕ) (objects : CloudMap) → IsSound number area image objects → IsRefusedAs number area v image objects → IsOfDamage v → ⊥
+sound_not_refused number area (status.Foreign at) image objects sound refused damage = sound_unrefused number area image objects sound ℕ (fault.Foreign at) refused
+sound_not_refused number area (status.Missing name) image objects sound refused damage = sound_unrefused number area image objects sound ℕ (fault.Lost (lost.Missing name)) refused
+sound_not_refused number area (status.Damaged name harm) image objects sound refused damage = sound_unrefused number area image objects sound ℕ (fault.Lost (lost.Damaged name harm)) refused
+sound_not_refused number area status.Done image objects sound refused damage = damage
+sound_not_refused number area status.Words image objects sound refused damage = damage
+sound_not_refused number area (status.Malformed at) image objects sound refused damage = damage
+sound_not_refused number area status.Early image objects sound refused damage = damage
+sound_not_refused number area status.SourceFault image objects sound refused damage = damage
+sound_not_refused number area status.SinkFault image objects sound refused damage = damage
+sound_not_refused number area status.JournalFault image objects sound refused damage = damage
+sound_not_refused number area status.CloudFault image objects sound refused damage = damage
+sound_not_refused number area status.Memory image objects sound refused damage = damage
+sound_not_refused number area status.Worn image objects sound refused damage = damage
+sound_not_refused number area status.Long image objects sound refused damage = damage
+sound_not_refused number area status.Settings image objects sound refused damage = damage
 
-module _ {S : Type 0} (g : Ghosts S) (volume size : ℕ) (s : S) where
+module _ {S : Type 0} (g : Ghosts S) (number area : ℕ) (s : S) where
   -- a site that is refused for what it has is none
-  pub refused_unsound : (v : Status) → WhereBothTold g s (IsRefusedAs volume size v) → IsOfDamage v → WhereBothTold g s (λ image objects. IsSound volume size image objects → ⊥)
+  pub refused_unsound : (v : Status) → WhereBothTold g s (IsRefusedAs number area v) → IsOfDamage v → WhereBothTold g s (λ image objects. IsSound number area image objects → ⊥)
   refused_unsound v refused damage =
-      both_told_from g s (λ image objects. IsSound volume size image objects → ⊥)
-      (λ image objects is held sound. sound_not_refused volume size v image objects sound (both_told_at g s (IsRefusedAs volume size v) image objects is held refused) damage)
+      both_told_from g s (λ image objects. IsSound number area image objects → ⊥)
+      (λ image objects is held sound. sound_not_refused number area v image objects sound (both_told_at g s (IsRefusedAs number area v) image objects is held refused) damage)
 
   -- a status that comes on no site that tells what it has
-  pub untold_unsound : (tells g s ≡ true → ⊥) → WhereBothTold g s (λ image objects. IsSound volume size image objects → ⊥)
+  pub untold_unsound : (tells g s ≡ true → ⊥) → WhereBothTold g s (λ image objects. IsSound number area image objects → ⊥)
   untold_unsound none =
-      both_told_from g s (λ image objects. IsSound volume size image objects → ⊥) (λ image objects is held sound. none (tells_both g s image objects is held))
+      both_told_from g s (λ image objects. IsSound number area image objects → ⊥) (λ image objects is held sound. none (tells_both g s image objects is held))

@@ -267,7 +267,7 @@ module _ {S : Type 0} (g : Ghosts S) (settings : Fields) (told : Bool) (found : 
       ran_still status.Memory tt nothing.1 (are_few, inl failed)
 
   -- a restart came to no end, and so many epochs were claimed
-  restart_end : InFrame → ℕ → End
+  abbrev restart_end : InFrame → ℕ → End
   restart_end f n = record { handled = course; floor = floor_of f course.last; kept = course.last.kept; claims = n; restart = Some f }
 
   -- what it came to

@@ -1,4 +1,4 @@
-use Rattle.std.proofs.Common.{◌∙◌, ap, subst, sym, IsErrOf}
+use Rattle.std.proofs.Common.{◌≡◌, ◌∙◌, ap, subst, sym, IsErrOf}
 use Rattle.sky_base.specs.declared.status.Status.{Status}
 use Rattle.sky_base.specs.declared.status.Status.TheVariants as status
 use Rattle.sky_recover.specs.Opening.{WhereBothTold}
@@ -43,6 +43,7 @@ returns-in-Ok-clause-ran g c =
     let same : c.in-Ok.world.settings ≡ settings = c.in-Ok.ensures.settings in
     let opened = subst (λ (f : Fields). Opened g.P.Storage f c.args.site.now c.open.new.site world.0) (sym same) world.1 in
     ran_counted g.P.Storage settings c.args.site.now ran.new.site ran.result _ (written c.args.sink.now) (written ran.new.sink) (faults c.args.sink.now) (faults opened_sink) (faults ran.new.sink) (quiet ∙ still)
-    (subst (λ (f : Fields). RanOn g.P.Storage f c.args.site.now ran.new.site ran.result _ _) same
+    (subst (λ (f : Fields). RanOn g.P.Storage f c.args.site.now ran.new.site ran.result (record { had = g.S.Source.left c.args.source.now; left = g.S.Source.left ran.new.source })
+    (record { before = written c.args.sink.now; after = written ran.new.sink; faults_before = faults opened_sink; faults_after = faults ran.new.sink })) same
     (ran.ensures.ran c.args.site.now (written c.args.sink.now) world.0 opened world.2
     (opening_whole world.0 (written c.args.sink.now) (written begun) (written opened_sink) c.in_default.ensures.ok world.3)))
