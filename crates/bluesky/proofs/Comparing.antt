@@ -34,7 +34,7 @@ compares_on f fs gs r q (first_on less on) = first_on (omega arith) on
 compares_on f fs gs r q (second_on less on) = second_on (omega arith) on
 
 -- a frame that has a step is not the end
-is_step : (mem : Memory) (s t : State) (f : InFrame) (outs : List OutFrame) → Step mem s f outs t → IsStep f
+pub is_step : (mem : Memory) (s t : State) (f : InFrame) (outs : List OutFrame) → Step mem s f outs t → IsStep f
 is_step mem s t (frame.Begin session) outs step = tt
 is_step mem s t (frame.Bytes session payload) outs step = tt
 is_step mem s t (frame.Close session) outs step = tt

@@ -23,7 +23,7 @@ use Rattle.sky_world.proofs.FrameLaws.{step_some}
 use Rattle.sky_world.proofs.SiteLaws.{step_tells}
 use Rattle.sky_world.proofs.PayloadLaws.{are_bytes}
 use Rattle.sky_world.proofs.SessionLaws.{all-replicate}
-use Rattle.bluesky.specs.Run.{frame_limit, Handled, recording, Took, other_magic, no_frame, within_magic, within_frame, IsReading, HasOneReading}
+use Rattle.bluesky.specs.Run.{frame_limit, Course, IsCourse, no_course, recording, Took, other_magic, no_frame, within_magic, within_frame, IsReading, HasOneReading}
 use Rattle.bluesky.proofs.OneReading.{one_reading, any_reading, told_reading}
 
 -- ---- what a frame carries
@@ -154,7 +154,7 @@ reads_from (suc fuel) (suc budget) s left long fits told has =
 -- a reading of some status
 abbrev HasReading : Found → List ℕ → Type 0
 HasReading found bytes =
-    (frames : List InFrame) × (answers : List OutFrame) × (last : State) × (status : Status) × (rest : List ℕ) × IsReading Ample (start true found) bytes frames answers last status rest
+    (course : Course) × (status : Status) × (rest : List ℕ) × (course.first ≡ start true found) × IsReading Ample bytes course status rest
 
 -- what is told was taken
 took : (bytes taken rest : List ℕ) → bytes ≡ taken ++ rest → Took (record { had = Some bytes; left = Some rest }) taken
@@ -169,29 +169,37 @@ taken_behind bytes left frames next rest e is =
 
 behind_magic : (found : Found) (bytes left : List ℕ) (frames : List InFrame) (answers : List OutFrame) (last : State) → bytes ≡ magic ++ left → AllByRecursion IsInFrame frames
     → Steps Ample (start true found) frames answers last → StopsFrom frame_limit frames left → HasReading found bytes
-behind_magic found bytes left frames answers last e formed steps (ends few rest is) =
-    (frames, answers, last, Done, rest, record { handled = record { formed = formed; steps = steps }; read = (few, taken_behind bytes left frames (in_frame End) rest e is) })
-behind_magic found bytes left frames answers last e formed steps (refused few taken rest no_one is) =
-    (frames, answers, last, Malformed (8 + length (in_frames frames)), rest, record { handled = record { formed = formed; steps = steps }; read = (few, no_frame taken refl no_one (taken_behind bytes left frames taken rest e is)) })
-behind_magic found bytes left frames answers last e formed steps (cut few taken short is) =
-    let all : left ≡ in_frames frames ++ (taken ++ []) = is ∙ ap (λ (x : List ℕ). in_frames frames ++ x) (sym (append-nil taken)) in
-    (frames, answers, last, Early, [], record { handled = record { formed = formed; steps = steps }; read = (few, within_frame taken short (taken_behind bytes left frames taken [] e all), refl) })
-behind_magic found bytes left frames answers last e formed steps (full all rest is) =
-    (frames, answers, last, Long, rest, record { handled = record { formed = formed; steps = steps }; read = (all, taken_behind bytes left frames [] rest e is) })
+behind_magic found bytes left frames answers last e formed steps stops =
+    let course : Course = record { first = start true found; frames = frames; answers = answers; last = last } in
+    let handled : IsCourse Ample course = record { formed = formed; steps = steps } in
+    elim stops [
+      | ends few rest is ↦ (course, Done, rest, refl, record { handled = handled; read = (few, taken_behind bytes left frames (in_frame End) rest e is) })
+      | refused few taken rest no_one is ↦
+          (course, Malformed (8 + length (in_frames frames)), rest, refl, record { handled = handled; read = (few, no_frame taken refl no_one (taken_behind bytes left frames taken rest e is)) })
+      | cut few taken short is ↦
+          let all : left ≡ in_frames frames ++ (taken ++ []) = is ∙ ap (λ (x : List ℕ). in_frames frames ++ x) (sym (append-nil taken)) in
+          (course, Early, [], refl, record { handled = handled; read = (few, within_frame taken short (taken_behind bytes left frames taken [] e all), refl) })
+      | full all rest is ↦ (course, Long, rest, refl, record { handled = handled; read = (all, taken_behind bytes left frames [] rest e is) })
+    ]
 
 -- nothing was handled
-none_handled : (found : Found) → Handled Ample (start true found) [] [] (start true found)
+none_handled : (found : Found) → IsCourse Ample (no_course (start true found))
 none_handled found = record { formed = tt; steps = (refl, refl) }
 
 -- bytes that are no magic, or too few for it
 before_frames : (found : Found) (bytes : List ℕ) → length bytes < 8 → HasReading found bytes
-before_frames found bytes short =
-    ([], [], start true found, Early, [], record { handled = none_handled found; read = (omega arith, within_magic bytes refl short (took bytes bytes [] (sym (append-nil bytes))), refl) })
+before_frames found bytes short = (
+  no_course (start true found),
+  Early,
+  [],
+  refl,
+  record { handled = none_handled found; read = (omega arith, within_magic bytes refl short (took bytes bytes [] (sym (append-nil bytes))), refl) },
+)
 
 no_magic : (found : Found) (bytes : List ℕ) → 8 ≤ length bytes → take 8 bytes ≢ magic → HasReading found bytes
 no_magic found bytes long other =
     let read = other_magic (take 8 bytes) refl refl (length-take-le 8 bytes long) other (took bytes (take 8 bytes) (drop 8 bytes) (sym (take-append-drop 8 bytes))) in
-    ([], [], start true found, Malformed 0, drop 8 bytes, record { handled = none_handled found; read = (omega arith, read) })
+    (no_course (start true found), Malformed 0, drop 8 bytes, refl, record { handled = none_handled found; read = (omega arith, read) })
 
 pub reading_exists : (bytes : List ℕ) (found : Found) → AreBytes bytes → HasReading found bytes
 reading_exists bytes found fits =

@@ -1,5 +1,6 @@
 mod Endings
 mod Comparing
+mod Completing
 mod OneReading
 pub mod Existing
 mod Sites

@@ -19,6 +19,7 @@ use Rattle.sky_outside.proofs.ToldLaws.{WhereTold-at}
 use Rattle.sky_recover.specs.Opening.{BeginsAt, Found, IsFoundOn, LeavesFound, WhereBothTold}
 use Rattle.sky_recover.specs.declared.fault.OpenFault.TheVariants as fault
 use Rattle.sky_recover.proofs.Refused.{sound_unrefused}
+use Rattle.sky_settings.specs.declared.settings.Fields.{Fields}
 use Rattle.sky_sound.specs.Recovery.{FindsSame, IsSound, history_of, recovered}
 use Rattle.sky_sound.proofs.Above.{history_recovered}
 use Rattle.sky_world.specs.Finding.{FindsPrefix}
@@ -26,7 +27,7 @@ use Rattle.sky_world.specs.Meaning.{kept_of}
 use Rattle.sky_world.specs.Opening.{IsRefusedAs}
 use Rattle.sky_world.specs.World.{tells}
 use Rattle.sky_world.proofs.FindingLaws.{both_told_at, both_told_from, leaves_as}
-use Rattle.bluesky.specs.Run.{IsOfDamage, area_size, volume}
+use Rattle.bluesky.specs.Run.{IsOfDamage}
 use Rattle.bluesky.specs.Stop.{Opened}
 
 -- ---- what is told
@@ -49,32 +50,39 @@ module _ {S : Type 0} (g : Ghosts S) where
   pub tells_both : (s : S) (image : List ℕ) (objects : CloudMap) → g.image s ≡ Some image → g.objects s ≡ Some objects → tells g s ≡ true
   tells_both s image objects is held = two_tell (g.image s) (g.objects s) image objects is held
 
-  -- ---- until the first frame
+-- ---- until the first frame
+
+module _ {S : Type 0} (g : Ghosts S) (settings : Fields) where
+  abbrev volume : ℕ
+  volume = settings.volume
+
+  abbrev size : ℕ
+  size = settings.journal_area
 
   -- recovery finds the same on the site itself
-  found_now : (s : S) → NothingPending g s → (image : List ℕ) (objects : CloudMap) → g.image s ≡ Some image → g.objects s ≡ Some objects → IsSound volume area_size image objects
-      → LeavesOnly g s s (FindsSame volume area_size image objects)
+  found_now : (s : S) → NothingPending g s → (image : List ℕ) (objects : CloudMap) → g.image s ≡ Some image → g.objects s ≡ Some objects → IsSound volume size image objects
+      → LeavesOnly g s s (FindsSame volume size image objects)
   found_now s nothing image objects is held sound =
-      LeavesOnly-start g s (FindsSame volume area_size image objects)
+      LeavesOnly-start g s (FindsSame volume size image objects)
       (λ left now may.
       let same : left ≡ image = only_read g s image is nothing left may.0 in
       let beside : now ≡ objects = WhereTold-at (g.objects s) (λ told. now ≡ told) objects held may.1 in
-      let here : FindsSame volume area_size image objects image objects = record { sound = sound; same = refl } in
-      subst (λ (i : List ℕ). FindsSame volume area_size image objects i now) (sym same)
-      (subst (λ (o : CloudMap). FindsSame volume area_size image objects image o) (sym beside) here))
+      let here : FindsSame volume size image objects image objects = record { sound = sound; same = refl } in
+      subst (λ (i : List ℕ). FindsSame volume size image objects i now) (sym same)
+      (subst (λ (o : CloudMap). FindsSame volume size image objects image o) (sym beside) here))
 
   -- nothing was done yet
-  pub found_none : (s : S) → NothingPending g s → LeavesFound g volume area_size s s
+  pub found_none : (s : S) → NothingPending g s → LeavesFound g volume size s s
   found_none s nothing =
-      both_told_from g s (λ image objects. IsSound volume area_size image objects → LeavesOnly g s s (FindsSame volume area_size image objects)) (λ image objects is held sound. found_now s nothing image objects is held sound)
+      both_told_from g s (λ image objects. IsSound volume size image objects → LeavesOnly g s s (FindsSame volume size image objects)) (λ image objects is held sound. found_now s nothing image objects is held sound)
 
   -- what was found on a site is there, and so the site is sound
-  pub history_found : (s : S) (found : Found) (image : List ℕ) (objects : CloudMap) → g.image s ≡ Some image → g.objects s ≡ Some objects → IsFoundOn g volume area_size s found
-      → history_of volume area_size image objects ≡ Ok found.history
-  history_found s found image objects is held on = both_told_at g s (λ i o. history_of volume area_size i o ≡ Ok found.history) image objects is held on.history
+  pub history_found : (s : S) (found : Found) (image : List ℕ) (objects : CloudMap) → g.image s ≡ Some image → g.objects s ≡ Some objects → IsFoundOn g volume size s found
+      → history_of volume size image objects ≡ Ok found.history
+  history_found s found image objects is held on = both_told_at g s (λ i o. history_of volume size i o ≡ Ok found.history) image objects is held on.history
 
-  pub found_sound : (s : S) (found : Found) (image : List ℕ) (objects : CloudMap) → g.image s ≡ Some image → g.objects s ≡ Some objects → IsFoundOn g volume area_size s found
-      → IsSound volume area_size image objects
+  pub found_sound : (s : S) (found : Found) (image : List ℕ) (objects : CloudMap) → g.image s ≡ Some image → g.objects s ≡ Some objects → IsFoundOn g volume size s found
+      → IsSound volume size image objects
   found_sound s found image objects is held on = record {
     no_checkpoint = (WhereTold-at (g.objects s) (BeginsAt volume found) objects held on.cloud).no_checkpoint;
     history = found.history;
@@ -83,18 +91,18 @@ module _ {S : Type 0} (g : Ghosts S) where
   }
 
   -- what an opening that found something leaves
-  pub leaves_found : (s t : S) (found : Found) (P : List ℕ → CloudMap → OfPair) → IsFoundOn g volume area_size s found → LeavesFound g volume area_size s t
-      → ((read : List ℕ) (held : CloudMap) (image : List ℕ) (objects : CloudMap) → FindsSame volume area_size read held image objects → P read held image objects)
+  pub leaves_found : (s t : S) (found : Found) (P : List ℕ → CloudMap → OfPair) → IsFoundOn g volume size s found → LeavesFound g volume size s t
+      → ((read : List ℕ) (held : CloudMap) (image : List ℕ) (objects : CloudMap) → FindsSame volume size read held image objects → P read held image objects)
       → WhereBothTold g s (λ read held. LeavesOnly g s t (P read held))
   leaves_found s t found P on leaves from =
       both_told_from g s (λ read held. LeavesOnly g s t (P read held))
       (λ read held is held_is.
-      let sound : IsSound volume area_size read held = found_sound s found read held is held_is on in
-      leaves_as g s t (FindsSame volume area_size read held) (P read held) (from read held)
-      (both_told_at g s (λ i o. IsSound volume area_size i o → LeavesOnly g s t (FindsSame volume area_size i o)) read held is held_is leaves sound))
+      let sound : IsSound volume size read held = found_sound s found read held is held_is on in
+      leaves_as g s t (FindsSame volume size read held) (P read held) (from read held)
+      (both_told_at g s (λ i o. IsSound volume size i o → LeavesOnly g s t (FindsSame volume size i o)) read held is held_is leaves sound))
 
-  pub opened_leaves : (s t : S) (found : Found) (P : List ℕ → CloudMap → OfPair) → Opened g s t found
-      → ((read : List ℕ) (held : CloudMap) (image : List ℕ) (objects : CloudMap) → FindsSame volume area_size read held image objects → P read held image objects)
+  pub opened_leaves : (s t : S) (found : Found) (P : List ℕ → CloudMap → OfPair) → Opened g settings s t found
+      → ((read : List ℕ) (held : CloudMap) (image : List ℕ) (objects : CloudMap) → FindsSame volume size read held image objects → P read held image objects)
       → WhereBothTold g s (λ read held. LeavesOnly g s t (P read held))
   opened_leaves s t found P opened from = leaves_found s t found P opened.found_on opened.leaves from
 
@@ -107,13 +115,13 @@ module _ {S : Type 0} (g : Ghosts S) where
       ap (λ (n : ℕ). tree_after_changes h.tree (take n h.changes)) long ∙ ap (λ (l : List Change). tree_after_changes h.tree l) (take-length h.changes)
 
   -- where recovery finds the same as on a site, it finds what an opening found there
-  pub found_prefix : (s : S) (found : Found) (read : List ℕ) (held : CloudMap) → g.image s ≡ Some read → g.objects s ≡ Some held → IsFoundOn g volume area_size s found
-      → (image : List ℕ) (objects : CloudMap) → FindsSame volume area_size read held image objects → FindsPrefix (history_length found.history) (kept_of found) image objects
+  pub found_prefix : (s : S) (found : Found) (read : List ℕ) (held : CloudMap) → g.image s ≡ Some read → g.objects s ≡ Some held → IsFoundOn g volume size s found
+      → (image : List ℕ) (objects : CloudMap) → FindsSame volume size read held image objects → FindsPrefix (history_length found.history) (kept_of found) image objects
   found_prefix s found read held is held_is on image objects same =
       let h : History = found.history in
-      let was = history_recovered volume area_size read held h (history_found s found read held is held_is on) in
+      let was = history_recovered volume size read held h (history_found s found read held is held_is on) in
       let tree : last_tree h ≡ tree_at_length h (history_length h) = sym (tree_at_end h) in
-      let now : recovered volume area_size image objects ≡ Ok (record { length = history_length h; tree = tree_at_length h (history_length h) }) =
+      let now : recovered volume size image objects ≡ Ok (record { length = history_length h; tree = tree_at_length h (history_length h) }) =
       same.same ∙ was ∙ ap (λ t. Ok (record { length = history_length h; tree = t })) tree in
       record {
         n = history_length h;
@@ -127,31 +135,31 @@ module _ {S : Type 0} (g : Ghosts S) where
 -- ---- a sound site
 
 -- it is refused for nothing that it has
-sound_not_refused : (v : Status) (image : List ℕ) (objects : CloudMap) → IsSound volume area_size image objects → IsRefusedAs volume area_size v image objects → IsOfDamage v → ⊥
-sound_not_refused (status.Foreign at) image objects sound refused damage = sound_unrefused volume area_size image objects sound ℕ (fault.Foreign at) refused
-sound_not_refused (status.Missing name) image objects sound refused damage = sound_unrefused volume area_size image objects sound ℕ (fault.Lost (lost.Missing name)) refused
-sound_not_refused (status.Damaged name harm) image objects sound refused damage = sound_unrefused volume area_size image objects sound ℕ (fault.Lost (lost.Damaged name harm)) refused
-sound_not_refused status.Done image objects sound refused damage = damage
-sound_not_refused status.Words image objects sound refused damage = damage
-sound_not_refused (status.Malformed at) image objects sound refused damage = damage
-sound_not_refused status.Early image objects sound refused damage = damage
-sound_not_refused status.SourceFault image objects sound refused damage = damage
-sound_not_refused status.SinkFault image objects sound refused damage = damage
-sound_not_refused status.JournalFault image objects sound refused damage = damage
-sound_not_refused status.CloudFault image objects sound refused damage = damage
-sound_not_refused status.Memory image objects sound refused damage = damage
-sound_not_refused status.Worn image objects sound refused damage = damage
-sound_not_refused status.Long image objects sound refused damage = damage
-sound_not_refused status.Settings image objects sound refused damage = damage
+sound_not_refused : (number area : ℕ) (v : Status) (image : List ℕ) (objects : CloudMap) → IsSound number area image objects → IsRefusedAs number area v image objects → IsOfDamage v → ⊥
+sound_not_refused number area (status.Foreign at) image objects sound refused damage = sound_unrefused number area image objects sound ℕ (fault.Foreign at) refused
+sound_not_refused number area (status.Missing name) image objects sound refused damage = sound_unrefused number area image objects sound ℕ (fault.Lost (lost.Missing name)) refused
+sound_not_refused number area (status.Damaged name harm) image objects sound refused damage = sound_unrefused number area image objects sound ℕ (fault.Lost (lost.Damaged name harm)) refused
+sound_not_refused number area status.Done image objects sound refused damage = damage
+sound_not_refused number area status.Words image objects sound refused damage = damage
+sound_not_refused number area (status.Malformed at) image objects sound refused damage = damage
+sound_not_refused number area status.Early image objects sound refused damage = damage
+sound_not_refused number area status.SourceFault image objects sound refused damage = damage
+sound_not_refused number area status.SinkFault image objects sound refused damage = damage
+sound_not_refused number area status.JournalFault image objects sound refused damage = damage
+sound_not_refused number area status.CloudFault image objects sound refused damage = damage
+sound_not_refused number area status.Memory image objects sound refused damage = damage
+sound_not_refused number area status.Worn image objects sound refused damage = damage
+sound_not_refused number area status.Long image objects sound refused damage = damage
+sound_not_refused number area status.Settings image objects sound refused damage = damage
 
-module _ {S : Type 0} (g : Ghosts S) (s : S) where
+module _ {S : Type 0} (g : Ghosts S) (number area : ℕ) (s : S) where
   -- a site that is refused for what it has is none
-  pub refused_unsound : (v : Status) → WhereBothTold g s (IsRefusedAs volume area_size v) → IsOfDamage v → WhereBothTold g s (λ image objects. IsSound volume area_size image objects → ⊥)
+  pub refused_unsound : (v : Status) → WhereBothTold g s (IsRefusedAs number area v) → IsOfDamage v → WhereBothTold g s (λ image objects. IsSound number area image objects → ⊥)
   refused_unsound v refused damage =
-      both_told_from g s (λ image objects. IsSound volume area_size image objects → ⊥)
-      (λ image objects is held sound. sound_not_refused v image objects sound (both_told_at g s (IsRefusedAs volume area_size v) image objects is held refused) damage)
+      both_told_from g s (λ image objects. IsSound number area image objects → ⊥)
+      (λ image objects is held sound. sound_not_refused number area v image objects sound (both_told_at g s (IsRefusedAs number area v) image objects is held refused) damage)
 
   -- a status that comes on no site that tells what it has
-  pub untold_unsound : (tells g s ≡ true → ⊥) → WhereBothTold g s (λ image objects. IsSound volume area_size image objects → ⊥)
+  pub untold_unsound : (tells g s ≡ true → ⊥) → WhereBothTold g s (λ image objects. IsSound number area image objects → ⊥)
   untold_unsound none =
-      both_told_from g s (λ image objects. IsSound volume area_size image objects → ⊥) (λ image objects is held sound. none (tells_both g s image objects is held))
+      both_told_from g s (λ image objects. IsSound number area image objects → ⊥) (λ image objects is held sound. none (tells_both g s image objects is held))

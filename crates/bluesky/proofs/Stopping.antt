@@ -1,6 +1,6 @@
 -- How a run that stops comes to its end.
 use Rattle.std.specs.Prelude.{slice_index_or}
-use Rattle.std.proofs.Common.{◌≡◌, ◌≢◌, ◌<◌, ◌≤◌, ◌⊎◌, inl, inr, ℕ, Bool, true, Option, List, [], ◌∷◌, ◌++◌, length, take, refl, sym, ap, subst, ◌∙◌, arith}
+use Rattle.std.proofs.Common.{◌≡◌, ◌≢◌, ◌+◌, ◌<◌, ◌≤◌, ◌⊎◌, inl, inr, ⊎_elim, ℕ, Bool, true, Option, None, Some, List, [], ◌∷◌, ◌++◌, length, take, refl, sym, ap, subst, ◌∙◌, arith}
 use Rattle.std.proofs.lemmas.List.{append-nil}
 use Rattle.std.proofs.lemmas.Bool.{true≢false}
 use Rattle.sky_base.specs.declared.status.Status.{Status}
@@ -11,22 +11,25 @@ use Rattle.sky_outside.proofs.ToldLaws.{Given-then}
 use Rattle.sky_outside.specs.declared.storage.Storage.{Ghosts}
 use Rattle.sky_recover.specs.Opening.{Found}
 use Rattle.sky_script.specs.Frame as frame
-use Rattle.sky_script.specs.Frame.{InFrame, OutFrame, Begin, Bytes, End as EndFrame, Ended, IsInFrame, session_count, in_frame, in_frames, out_frame, out_frames, magic}
+use Rattle.sky_script.specs.Frame.{InFrame, OutFrame, Begin, Bytes, End as EndFrame, Restart, Ended, IsInFrame, session_count, in_frame, in_frames, out_frame, out_frames, magic}
+use Rattle.sky_outside.specs.CloudMap.{CloudMap}
+use Rattle.sky_settings.specs.declared.settings.Fields.{Fields}
+use Rattle.sky_sound.specs.Boot.{Claims, MayClaim}
 use Rattle.sky_world.specs.Finding as finding
 use Rattle.sky_world.specs.Finding.{floor_of}
 use Rattle.sky_world.specs.Meaning as meaning
 use Rattle.sky_world.specs.Meaning.{State, Kept, Scarce, session_at, start}
-use Rattle.sky_world.specs.Opening.{IsOfOpening, MayRefuse}
+use Rattle.sky_world.specs.Opening.{IsOfOpening, LeavesCloudAs, LeavesRefusedAs, MayRefuse}
 use Rattle.sky_world.specs.World as world
-use Rattle.sky_world.specs.World.{WorldView, SinkGot, SteppedDown, StandsFor, tells}
+use Rattle.sky_world.specs.World.{IsRestart, WorldView, SinkGot, SteppedDown, StandsFor, restarts_by, tells}
 use Rattle.sky_world.specs.declared.sessions.Session.{Session}
 use Rattle.sky_world.specs.declared.sessions.Session.TheVariants as slot
-use Rattle.bluesky.specs.Run.{frame_limit, Handled, IsOfDamage, IsReplayed, SourceUse, SinkUse, no_frame, within_frame, GaveUpTo, GaveEnding, SinkCounts, QuietBefore, at_answer, at_end, RestartFailed, RecordFailed, BeginFailed, EndsBy, LeavesOfRun, RanOn, session_bytes}
-use Rattle.bluesky.specs.Stop.{IsStop, MayStop, Opened, StoppedBy, Finishes}
+use Rattle.bluesky.specs.Run.{frame_limit, Course, End, IsCourse, IsOfDamage, IsReplayed, LastStep, SourceUse, SinkUse, Used, no_frame, within_frame, GaveUpTo, GaveEnding, SinkCounts, AnswerFailed, at_answer, at_end, EndsInRestart, RecordFailed, BeginFailed, EndsBy, LeavesOfRun, RanOn, end_at, restarts_in, session_bytes}
+use Rattle.bluesky.specs.Stop.{IsStop, MayStop, Opened, StepStopped, StoppedBy, Finishes}
 use Rattle.bluesky.specs.declared.frames.Stop.{Stop}
 use Rattle.bluesky.specs.declared.frames.Stop.TheVariants as stop
-use Rattle.bluesky.proofs.Going.{Going, session_then, so_far, so_far_then, given_so_far}
-use Rattle.bluesky.proofs.Leaving.{leaves_still, leaves_within}
+use Rattle.bluesky.proofs.Going.{Going, restarts_then, session_then, so_far, so_far_then, given_so_far}
+use Rattle.bluesky.proofs.Leaving.{claims_so_far, claims_with, leaves_still, leaves_within}
 
 -- ---- the last frame, behind what was given before
 
@@ -53,8 +56,9 @@ last_one : (found : Found) (answers : List OutFrame) (s : Status) → session_by
 last_one found answers s = ap (λ (x : List ℕ). session_bytes found answers ++ x) (sym (append-nil (out_frame (Ended s)))) ∙ session_then found answers (Ended s ∷ [])
 
 -- the same status
-pub ran_as : {S : Type 0} (g : Ghosts S) (from to : S) (s t : Status) (source : SourceUse) (sink : SinkUse) → s ≡ t → RanOn g from to t source sink → RanOn g from to s source sink
-ran_as g from to s t source sink is ran = subst (λ (x : Status). RanOn g from to x source sink) (sym is) ran
+pub ran_as : {S : Type 0} (g : Ghosts S) (settings : Fields) (from to : S) (s t : Status) (source : SourceUse) (sink : SinkUse) → s ≡ t → RanOn g settings from to t source sink
+    → RanOn g settings from to s source sink
+ran_as g settings from to s t source sink is ran = subst (λ (x : Status). RanOn g settings from to x source sink) (sym is) ran
 
 -- a frame in which a call of the disk failed has bytes of a session
 pub down_bytes : {S : Type 0} (g : Ghosts S) (world : WorldView) (s t : S) (f : InFrame) (sink : SinkGot) → SteppedDown g world s f t sink
@@ -76,29 +80,29 @@ absent_stands slot.Absent meaning.Closed is stands = absurd stands
 absent_stands (slot.Open received) theirs is stands = absurd cc
 absent_stands (slot.Closed received) theirs is stands = absurd cc
 
--- no call of the site failed in the opening, nor in the frames that were handled
-quiet_before : {S : Type 0} (g : Ghosts S) (told : Bool) (found : Found) (of : WorldView) (s s0 s1 : S) (l0 l1 g0 g1 : Option (List ℕ)) (place count : ℕ) → Opened g s s0 found
-    → (going : Going g told found of s0 s1 l0 l1 g0 g1 place count) → g.disk_faults s1 ≡ g.disk_faults s0 → g.cloud_faults s1 ≡ g.cloud_faults s0 → QuietBefore g s going.state
-quiet_before g told found of s s0 s1 l0 l1 g0 g1 place count opened going disk cloud = record {
-  world = of;
-  site = s1;
-  stands = going.stands;
-  disk = disk ∙ opened.disk;
-  cloud = cloud ∙ opened.cloud;
-}
+-- what may have been claimed was, or was not
+claimed_or_not : (n : ℕ) (a b : Option CloudMap) → MayClaim n a b → Claims 0 a b ⊎ Claims n a b
+claimed_or_not n None None may = inl tt
+claimed_or_not n (Some x) (Some y) (inl same) = inl same
+claimed_or_not n (Some x) (Some y) (inr claims) = inr claims
+claimed_or_not n None (Some y) may = absurd may
+claimed_or_not n (Some x) None may = absurd may
 
 -- ---- a run that stops
 
 -- The site was s at the beginning, s0 when the frames began, s1 before the last call, and s2 behind it. The source was left at l0, l1
 -- and l2 then; the sink was given g0, g1, g2 then, and g3 at the end. Its count was x up to that call, y behind it, and z at the end.
-module _ {S : Type 0} (g : Ghosts S) (told : Bool) (found : Found) (of : WorldView) (s s0 s1 s2 : S) (had l0 l1 l2 before g0 g1 g2 g3 : Option (List ℕ)) (place count x y z : ℕ)
-    (opened : Opened g s s0 found) (begun : Had had l0 magic) (given : Given before g0 (session_bytes found []))
-    (going : Going g told found of s0 s1 l0 l1 g0 g1 place count) (few : count < frame_limit) (disk : g.disk_faults s1 ≡ g.disk_faults s0) (cloud : g.cloud_faults s1 ≡ g.cloud_faults s0) where
+module _ {S : Type 0} (g : Ghosts S) (settings : Fields) (told : Bool) (found : Found) (of : WorldView) (s s0 s1 s2 : S) (had l0 l1 l2 before g0 g1 g2 g3 : Option (List ℕ)) (place count x y z : ℕ)
+    (opened : Opened g settings s s0 found) (begun : Had had l0 magic) (given : Given before g0 (session_bytes found []))
+    (going : Going g settings told found of s0 s1 l0 l1 g0 g1 place count) (few : count < frame_limit) (disk : g.disk_faults s1 ≡ g.disk_faults s0) (cloud : g.cloud_faults s1 ≡ g.cloud_faults s0) where
   abbrev source : SourceUse
   source = record { had = had; left = l2 }
 
   abbrev sink : SinkUse
   sink = record { before = before; after = g3; faults_before = x; faults_after = z }
+
+  abbrev used : Used
+  used = record { source = source; sink = sink; found = found }
 
   abbrev finished : SinkUse
   finished = record { before = g2; after = g3; faults_before = y; faults_after = z }
@@ -106,108 +110,133 @@ module _ {S : Type 0} (g : Ghosts S) (told : Bool) (found : Found) (of : WorldVi
   abbrev got : SinkGot
   got = record { before = g1; after = g2 }
 
-  abbrev first : State
-  first = start told found
+  abbrev course : Course
+  course = going.course
 
   -- a run that ended behind the frames that were handled
-  ran : (v : Status) (floor : ℕ) (reached : Kept) → LeavesOfRun g s s2 first going.frames floor reached → EndsBy v source sink found going.frames going.answers going.state floor reached → RanOn g s s2 v source sink
-  ran v floor reached leaves ends =
-      let same : told ≡ tells g s = going.told_then ∙ opened.tells in
+  ran : (v : Status) (end : End) → LeavesOfRun g settings s s2 end → EndsBy v used course end → (end.restart ≡ Some Restart → LeavesRefusedAs g s1 s2 v) → LeavesCloudAs g s1 s2 v
+      → RanOn g settings s s2 v source sink
+  ran v end leaves ends untouched beside =
       record {
         found = found;
-        frames = going.frames;
-        answers = going.answers;
-        last = going.state;
-        floor = floor;
-        reached = reached;
+        course = course;
+        end = end;
         opened = opened.found_on;
-        handled = subst (λ (b : Bool). Handled Scarce (start b found) going.frames going.answers going.state) same going.handled;
+        begins = going.begins ∙ ap (λ (b : Bool). start b found) (going.told_then ∙ opened.tells);
+        handled = going.handled;
         ends = ends;
-        quiet = inr (quiet_before g told found of s s0 s1 l0 l1 g0 g1 place count opened going disk cloud);
-        leaves = subst (λ (b : Bool). LeavesOfRun g s s2 (start b found) going.frames floor reached) same leaves;
+        last_step = inr (record {
+          world = of;
+          site = s1;
+          stands = going.stands;
+          disk = disk ∙ opened.disk;
+          cloud = cloud ∙ opened.cloud;
+          untouched = untouched;
+          untouched_cloud = beside;
+        });
+        leaves = leaves;
       }
 
   -- the site was left alone since
-  still : s2 ≡ s1 → LeavesOfRun g s s2 first going.frames going.state.kept.mark going.state.kept
-  still same =
-      subst (λ (t : S). LeavesOfRun g s t first going.frames going.state.kept.mark going.state.kept) (sym same) (leaves_still g told found of s s0 s1 l0 l1 g0 g1 place count opened going)
+  still : s2 ≡ s1 → LeavesOfRun g settings s s2 (end_at course)
+  still same = subst (λ (t : S). LeavesOfRun g settings s t (end_at course)) (sym same) (leaves_still g settings told found of s s0 s1 l0 l1 g0 g1 place count opened going)
 
   -- such a run
-  ran_still : (v : Status) → s2 ≡ s1 → EndsBy v source sink found going.frames going.answers going.state going.state.kept.mark going.state.kept → RanOn g s s2 v source sink
-  ran_still v same ends = ran v going.state.kept.mark going.state.kept (still same) ends
+  ran_still : (v : Status) → LeavesCloudAs g s1 s2 v → s2 ≡ s1 → EndsBy v used course (end_at course) → RanOn g settings s s2 v source sink
+  ran_still v beside same ends = ran v (end_at course) (still same) ends (λ e. absurd cc) beside
 
   -- a step was under way
-  within : (floor : ℕ) (reached : Kept) → finding.LeavesFinding g s1 s2 floor reached → LeavesOfRun g s s2 first going.frames floor reached
-  within floor reached leaves = leaves_within g told found of s s0 s1 l0 l1 g0 g1 place count opened going s2 floor reached leaves
+  within : (end : End) → end.handled ≡ course → finding.LeavesFinding g s1 s2 end.floor end.kept → Claims end.claims (g.objects s) (g.objects s2) → LeavesOfRun g settings s s2 end
+  within end same leaves claims = leaves_within g settings told found of s s0 s1 l0 l1 g0 g1 place count opened going s2 end same leaves claims
 
-  are_few : length going.frames < frame_limit
+  -- with the epochs of the last frame
+  with_frame : (f : InFrame) → Claims (restarts_by f) (g.objects s1) (g.objects s2) → Claims (1 + restarts_in (course.frames ++ f ∷ [])) (g.objects s) (g.objects s2)
+  with_frame f claims = claims_with g settings told found of s s0 s1 l0 l1 g0 g1 place count opened going f s2 claims
+
+  -- and without, where it claimed none
+  without_frame : Claims 0 (g.objects s1) (g.objects s2) → Claims (1 + restarts_in course.frames) (g.objects s) (g.objects s2)
+  without_frame claims =
+      subst (λ (n : ℕ). Claims n (g.objects s) (g.objects s2)) (omega (arith, restarts_then course.frames EndFrame)) (with_frame EndFrame claims)
+
+  are_few : length course.frames < frame_limit
   are_few = subst (λ (n : ℕ). n < frame_limit) (sym going.count_is) few
 
-  given_then : Given before g1 (session_bytes found going.answers)
-  given_then = given_so_far found before g0 g1 going.answers given going.written
+  given_then : Given before g1 (session_bytes found course.answers)
+  given_then = given_so_far found before g0 g1 course.answers given going.written
 
   -- what was given before the last frame, where nothing was given since
-  given_still : g2 ≡ g1 → Given before g2 (session_bytes found going.answers)
-  given_still same = subst (λ (b : Option (List ℕ)). Given before b (session_bytes found going.answers)) (sym same) given_then
+  given_still : g2 ≡ g1 → Given before g2 (session_bytes found course.answers)
+  given_still same = subst (λ (b : Option (List ℕ)). Given before b (session_bytes found course.answers)) (sym same) given_then
 
   -- the last frame behind it
-  ending : (v : Status) → g2 ≡ g1 → y ≡ x → GaveEnding finished [] v → GaveEnding sink (session_bytes found going.answers) v
-  ending v same quiet last = ending_then before g2 g3 x y z (session_bytes found going.answers) v quiet (given_still same) last
+  ending : (v : Status) → g2 ≡ g1 → y ≡ x → GaveEnding finished [] v → GaveEnding sink (session_bytes found course.answers) v
+  ending v same quiet last = ending_then before g2 g3 x y z (session_bytes found course.answers) v quiet (given_still same) last
 
   -- what was taken, with what followed the frames
-  took : (next : List ℕ) → Had l1 l2 next → Had had l2 (magic ++ in_frames going.frames ++ next)
-  took next more = so_far_then had l0 l1 l2 going.frames next begun going.read more
+  took : (next : List ℕ) → Had l1 l2 next → Had had l2 (magic ++ in_frames course.frames ++ next)
+  took next more = so_far_then had l0 l1 l2 course.frames next begun going.read more
 
-  ran_done : (v : Status) → StoppedBy g stop.End of s1 s2 (record { had = l1; left = l2 }) got → Finishes stop.End place v finished → RanOn g s s2 v source sink
+  ran_done : (v : Status) → StoppedBy g stop.End of s1 s2 (record { had = l1; left = l2 }) got → Finishes stop.End place v finished → RanOn g settings s s2 v source sink
   ran_done v why (inl done) =
-      let all = subst (λ (bytes : List ℕ). Given before g3 bytes) (last_one found going.answers status.Done)
-      (Given-then before g2 g3 (session_bytes found going.answers) (out_frame (Ended status.Done)) (given_still why.1.0) done.1) in
-      ran_as g s s2 v status.Done source sink done.0 (ran_still status.Done why.1.1 ((are_few, took (in_frame EndFrame) why.0), all, (refl, refl)))
+      let all = subst (λ (bytes : List ℕ). Given before g3 bytes) (last_one found course.answers status.Done)
+      (Given-then before g2 g3 (session_bytes found course.answers) (out_frame (Ended status.Done)) (given_still why.1.0) done.1) in
+      ran_as g settings s s2 v status.Done source sink done.0 (ran_still status.Done tt why.1.1 ((are_few, took (in_frame EndFrame) why.0), all, refl))
   ran_done v why (inr failed) =
-      let up = up_to_then before g2 g3 x y z (session_bytes found going.answers) (out_frame (Ended status.Done)) (given_still why.1.0) failed.1 in
-      ran_as g s s2 v status.SinkFault source sink failed.0 (ran_still status.SinkFault why.1.1 (are_few, at_end refl refl (took (in_frame EndFrame) why.0) up))
+      let up = up_to_then before g2 g3 x y z (session_bytes found course.answers) (out_frame (Ended status.Done)) (given_still why.1.0) failed.1 in
+      ran_as g settings s s2 v status.SinkFault source sink failed.0 (ran_still status.SinkFault tt why.1.1 (are_few, at_end refl (took (in_frame EndFrame) why.0) up))
 
-  ran_malformed : (v : Status) → y ≡ x → StoppedBy g stop.Malformed of s1 s2 (record { had = l1; left = l2 }) got → Finishes stop.Malformed place v finished → RanOn g s s2 v source sink
+  ran_malformed : (v : Status) → y ≡ x → StoppedBy g stop.Malformed of s1 s2 (record { had = l1; left = l2 }) got → Finishes stop.Malformed place v finished → RanOn g settings s s2 v source sink
   ran_malformed v quiet why fin =
       let some = why.0 in
-      ran_as g s s2 v (status.Malformed place) source sink fin.0
-      (ran_still (status.Malformed place) why.1.1
-      ((are_few, no_frame some.0 going.place_is some.1 (took some.0 some.2)), ending (status.Malformed place) why.1.0 quiet fin.1, (refl, refl)))
+      ran_as g settings s s2 v (status.Malformed place) source sink fin.0
+      (ran_still (status.Malformed place) tt why.1.1
+      ((are_few, no_frame some.0 going.place_is some.1 (took some.0 some.2)), record { gave = ending (status.Malformed place) why.1.0 quiet fin.1; end_is = refl }))
 
-  ran_early : (v : Status) → y ≡ x → StoppedBy g stop.Early of s1 s2 (record { had = l1; left = l2 }) got → Finishes stop.Early place v finished → RanOn g s s2 v source sink
+  ran_early : (v : Status) → y ≡ x → StoppedBy g stop.Early of s1 s2 (record { had = l1; left = l2 }) got → Finishes stop.Early place v finished → RanOn g settings s s2 v source sink
   ran_early v quiet why fin =
       let some = why.0 in
-      ran_as g s s2 v status.Early source sink fin.0
-      (ran_still status.Early why.2.1
-      ((are_few, within_frame some.0 some.1 (took some.0 some.2), why.1), ending status.Early why.2.0 quiet fin.1, (refl, refl)))
+      ran_as g settings s s2 v status.Early source sink fin.0
+      (ran_still status.Early tt why.2.1
+      ((are_few, within_frame some.0 some.1 (took some.0 some.2), why.1), record { gave = ending status.Early why.2.0 quiet fin.1; end_is = refl }))
 
-  ran_source : (v : Status) → y ≡ x → StoppedBy g stop.SourceFault of s1 s2 (record { had = l1; left = l2 }) got → Finishes stop.SourceFault place v finished → RanOn g s s2 v source sink
+  ran_source : (v : Status) → y ≡ x → StoppedBy g stop.SourceFault of s1 s2 (record { had = l1; left = l2 }) got → Finishes stop.SourceFault place v finished → RanOn g settings s s2 v source sink
   ran_source v quiet why fin =
       let some = why.0 in
-      ran_as g s s2 v status.SourceFault source sink fin.0
-      (ran_still status.SourceFault why.1.1
-      (are_few, within_frame some.0 some.1 (took some.0 some.2), ending status.SourceFault why.1.0 quiet fin.1, (refl, refl)))
+      ran_as g settings s s2 v status.SourceFault source sink fin.0
+      (ran_still status.SourceFault tt why.1.1
+      (are_few, within_frame some.0 some.1 (took some.0 some.2), record { gave = ending status.SourceFault why.1.0 quiet fin.1; end_is = refl }))
 
   -- ---- a step failed
 
   -- the sink, within the answers to a frame
-  ran_sink : (f : InFrame) → IsInFrame f → Had l1 l2 (in_frame f) → g3 ≡ g2 → world.SteppedPart g of s1 f s2 got → RanOn g s s2 status.SinkFault source sink
-  ran_sink f formed read unwritten part =
-      let went = part going.state going.stands in
+  ran_sink : (f : InFrame) → IsInFrame f → Had l1 l2 (in_frame f) → g3 ≡ g2 → Claims (restarts_by f) (g.objects s1) (g.objects s2) → world.SteppedPart g of s1 f s2 got
+      → RanOn g settings s s2 status.SinkFault source sink
+  ran_sink f formed read unwritten claims part =
+      let went = part course.last going.stands in
       let moved = subst (λ (b : Option (List ℕ)). GivenPart g1 b (out_frames went.0)) (sym unwritten) went.3 in
-      let up = part_then before g1 g3 x z (session_bytes found going.answers) (out_frames went.0) given_then moved in
-      let floor : ℕ = floor_of f going.state in
-      let kept : Kept = finding.reached f going.state went.1 in
-      ran status.SinkFault floor kept (within floor kept went.4) (are_few, at_answer f went.0 went.1 formed went.2 refl refl (took (in_frame f) read) up)
+      let up = part_then before g1 g3 x z (session_bytes found course.answers) (out_frames went.0) given_then moved in
+      let end : End = record {
+        handled = course;
+        floor = floor_of f course.last;
+        kept = finding.reached f course.last went.1;
+        claims = 1 + restarts_in (course.frames ++ f ∷ []);
+        restart = None;
+      } in
+      let failed : AnswerFailed used course end = record { f = f; outs = went.0; new = went.1; formed = formed; step = went.2; took = took (in_frame f) read; gave = up; end_is = refl } in
+      ran status.SinkFault end (within end refl went.4 (with_frame f claims)) (are_few, at_answer failed) (λ e. absurd cc) tt
 
   -- the disk, in a record
-  ran_record : (f : InFrame) → IsInFrame f → Had l1 l2 (in_frame f) → y ≡ x → GaveEnding finished [] status.JournalFault → SteppedDown g of s1 f s2 got → RanOn g s s2 status.JournalFault source sink
-  ran_record f formed read quiet last step =
+  ran_record : (f : InFrame) → IsInFrame f → Had l1 l2 (in_frame f) → y ≡ x → GaveEnding finished [] status.JournalFault → MayClaim (restarts_by f) (g.objects s1) (g.objects s2) → SteppedDown g of s1 f s2 got
+      → RanOn g settings s s2 status.JournalFault source sink
+  ran_record f formed read quiet last claims step =
       let down = down_bytes g of s1 s2 f got step in
-      let went = down.3 going.state going.stands in
-      let all = subst (λ (bytes : List ℕ). Given before g2 bytes) (session_then found going.answers went.1)
-      (Given-then before g1 g2 (session_bytes found going.answers) (out_frames went.1) given_then went.5) in
-      let record_failed : RecordFailed source sink found going.frames going.answers going.state going.state.kept.mark went.3.kept =
+      let went = down.3 course.last going.stands in
+      let all = subst (λ (bytes : List ℕ). Given before g2 bytes) (session_then found course.answers went.1)
+      (Given-then before g1 g2 (session_bytes found course.answers) (out_frames went.1) given_then went.5) in
+      let end : End = record { handled = course; floor = course.last.kept.mark; kept = went.3.kept; claims = 1 + restarts_in course.frames; restart = None } in
+      let none : Claims 0 (g.objects s1) (g.objects s2) =
+      ⊎_elim (λ n. n) (λ n. n) (claimed_or_not 0 (g.objects s1) (g.objects s2) (subst (λ (h : InFrame). MayClaim (restarts_by h) (g.objects s1) (g.objects s2)) down.2 claims)) in
+      let failed : RecordFailed used course end =
       record {
         session = down.0;
         payload = down.1;
@@ -217,112 +246,133 @@ module _ {S : Type 0} (g : Ghosts S) (told : Bool) (found : Found) (of : WorldVi
         new = went.3;
         formed = subst IsInFrame down.2 formed;
         stepped = went.4;
-        floor_is = refl;
-        reached_is = refl;
-        took = took (in_frame (Bytes down.0 down.1)) (subst (λ (i : InFrame). Had l1 l2 (in_frame i)) down.2 read);
-        gave = ending_then before g2 g3 x y z (session_bytes found (going.answers ++ went.1)) status.JournalFault quiet all last;
+        took = subst (λ (h : InFrame). Had had l2 (magic ++ in_frames course.frames ++ in_frame h)) down.2 (took (in_frame f) read);
+        gave = ending_then before g2 g3 x y z (session_bytes found (course.answers ++ went.1)) status.JournalFault quiet all last;
+        end_is = refl;
       } in
-      ran status.JournalFault going.state.kept.mark went.3.kept (within going.state.kept.mark went.3.kept went.6) (are_few, inl record_failed)
+      ran status.JournalFault end (within end refl went.6 (without_frame none)) (are_few, inl failed) (λ e. absurd cc) tt
 
   -- there was no memory for a session
-  ran_begin : (f : InFrame) → IsInFrame f → Had l1 l2 (in_frame f) → y ≡ x → GaveEnding finished [] status.Memory → world.BeginsFirst of f → world.DidNothing s1 s2 got → RanOn g s s2 status.Memory source sink
+  ran_begin : (f : InFrame) → IsInFrame f → Had l1 l2 (in_frame f) → y ≡ x → GaveEnding finished [] status.Memory → world.BeginsFirst of f → world.DidNothing s1 s2 got → RanOn g settings s s2 status.Memory source sink
   ran_begin f formed read quiet last begins nothing =
-      let begin_failed : BeginFailed source sink found going.frames going.answers going.state =
+      let failed : BeginFailed used course (end_at course) =
       record {
         session = begins.0;
         within = subst IsInFrame begins.1 formed;
-        absent = absent_stands (slice_index_or of.sessions begins.0 slot.Absent) (session_at going.state begins.0) begins.2 (going.stands.sessions begins.0);
+        absent = absent_stands (slice_index_or of.sessions begins.0 slot.Absent) (session_at course.last begins.0) begins.2 (going.stands.sessions begins.0);
         took = took (in_frame (Begin begins.0)) (subst (λ (i : InFrame). Had l1 l2 (in_frame i)) begins.1 read);
         gave = ending status.Memory nothing.0 quiet last;
+        end_is = refl;
       } in
-      ran_still status.Memory nothing.1 (are_few, inl (begin_failed, (refl, refl)))
+      ran_still status.Memory tt nothing.1 (are_few, inl failed)
 
-  -- a restart came to no end
-  restart_failed : (v : Status) (f : InFrame) → MayRefuse v going.state → Had l1 l2 (in_frame f) → y ≡ x → GaveEnding finished [] v → world.RestartFailed g of s1 f s2 got
-      → RestartFailed source sink found going.frames going.answers going.state v (floor_of f going.state) going.state.kept
-  restart_failed v f may read quiet last failed = record {
-    f = f;
-    restart = failed.restart;
-    cause = may;
-    floor_is = refl;
-    reached_is = refl;
-    took = took (in_frame f) read;
-    gave = ending v failed.unwritten quiet last;
-  }
+  -- a restart came to no end, and so many epochs were claimed
+  abbrev restart_end : InFrame → ℕ → End
+  restart_end f n = record { handled = course; floor = floor_of f course.last; kept = course.last.kept; claims = n; restart = Some f }
+
+  -- what it came to
+  record RestartEnds (v : Status) : Type 0 where
+    end : End
+    ends : EndsInRestart used course v end
+    leaves : LeavesOfRun g settings s s2 end
+    untouched : end.restart ≡ Some Restart → LeavesRefusedAs g s1 s2 v
+
+  restart_ends : (v : Status) (f : InFrame) → MayRefuse v course.last → Had l1 l2 (in_frame f) → y ≡ x → GaveEnding finished [] v → MayClaim (restarts_by f) (g.objects s1) (g.objects s2)
+      → (f ≡ Restart → LeavesRefusedAs g s1 s2 v) → world.RestartFailed g of s1 f s2 got → RestartEnds v
+  restart_ends v f may read quiet last claims untouched failed =
+      let plain : ℕ = 1 + restarts_in course.frames in
+      let more : ℕ = 1 + restarts_in (course.frames ++ f ∷ []) in
+      let with_claims = λ (n : ℕ) (either : (n ≡ plain) ⊎ (n ≡ more)) (claimed : Claims n (g.objects s) (g.objects s2)).
+      let it : RestartEnds v = record {
+        end = restart_end f n;
+        ends = record { f = f; restart = failed.restart; cause = may; took = took (in_frame f) read; gave = ending v failed.unwritten quiet last; claims = either; end_is = refl };
+        leaves = within (restart_end f n) refl (failed.leaves course.last going.stands) claimed;
+        untouched = λ e. untouched (let same : f ≡ Restart = cc in same);
+      } in it in
+      ⊎_elim (λ none. with_claims plain (inl refl) (without_frame none)) (λ one. with_claims more (inr refl) (with_frame f one)) (claimed_or_not (restarts_by f) (g.objects s1) (g.objects s2) claims)
 
   -- such a run, whichever its status is
-  ran_restart : (v : Status) (f : InFrame) → world.RestartFailed g of s1 f s2 got → EndsBy v source sink found going.frames going.answers going.state (floor_of f going.state) going.state.kept → RanOn g s s2 v source sink
-  ran_restart v f failed ends = ran v (floor_of f going.state) going.state.kept (within (floor_of f going.state) going.state.kept (failed.leaves going.state going.stands)) ends
+  ran_restart : (v : Status) → ((end : End) → EndsInRestart used course v end → EndsBy v used course end) → LeavesCloudAs g s1 s2 v → RestartEnds v → RanOn g settings s s2 v source sink
+  ran_restart v by beside it = ran v it.end it.leaves (by it.end it.ends) it.untouched beside
 
-  ran_journal : (f : InFrame) → MayRefuse status.JournalFault going.state → IsInFrame f → Had l1 l2 (in_frame f) → y ≡ x → GaveEnding finished [] status.JournalFault → SteppedDown g of s1 f s2 got ⊎ world.RestartFailed g of s1 f s2 got
-      → RanOn g s s2 status.JournalFault source sink
-  ran_journal f may formed read quiet last (inl down) = ran_record f formed read quiet last down
-  ran_journal f may formed read quiet last (inr failed) = ran_restart status.JournalFault f failed (are_few, inr (restart_failed status.JournalFault f may read quiet last failed))
+  ran_journal : (why : StepStopped g status.JournalFault of s1 s2 (record { had = l1; left = l2 }) got) → MayRefuse status.JournalFault course.last → y ≡ x → GaveEnding finished [] status.JournalFault
+      → SteppedDown g of s1 why.f s2 got ⊎ world.RestartFailed g of s1 why.f s2 got → RanOn g settings s s2 status.JournalFault source sink
+  ran_journal why may quiet last (inl down) = ran_record why.f why.formed why.took quiet last why.claims down
+  ran_journal why may quiet last (inr failed) =
+      ran_restart status.JournalFault (λ end ends. (are_few, inr ends)) why.untouched_cloud (restart_ends status.JournalFault why.f may why.took quiet last why.claims why.untouched failed)
 
-  ran_memory : (f : InFrame) → MayRefuse status.Memory going.state → IsInFrame f → Had l1 l2 (in_frame f) → y ≡ x → GaveEnding finished [] status.Memory
-      → (world.BeginsFirst of f × world.DidNothing s1 s2 got) ⊎ world.RestartFailed g of s1 f s2 got → RanOn g s s2 status.Memory source sink
-  ran_memory f may formed read quiet last (inl begins) = ran_begin f formed read quiet last begins.0 begins.1
-  ran_memory f may formed read quiet last (inr failed) = ran_restart status.Memory f failed (are_few, inr (restart_failed status.Memory f may read quiet last failed))
+  ran_memory : (why : StepStopped g status.Memory of s1 s2 (record { had = l1; left = l2 }) got) → MayRefuse status.Memory course.last → y ≡ x → GaveEnding finished [] status.Memory
+      → (world.BeginsFirst of why.f × world.DidNothing s1 s2 got) ⊎ world.RestartFailed g of s1 why.f s2 got → RanOn g settings s s2 status.Memory source sink
+  ran_memory why may quiet last (inl begins) = ran_begin why.f why.formed why.took quiet last begins.0 begins.1
+  ran_memory why may quiet last (inr failed) =
+      ran_restart status.Memory (λ end ends. (are_few, inr ends)) why.untouched_cloud (restart_ends status.Memory why.f may why.took quiet last why.claims why.untouched failed)
 
   -- a step failed with this status
-  ran_failed : (how : Status) → MayRefuse how going.state → ((how ≡ status.SinkFault → ⊥) → y ≡ x) → (how ≡ status.SinkFault → g3 ≡ g2) → (how ≢ status.SinkFault → GaveEnding finished [] how)
-      → (f : InFrame) → IsInFrame f → Had l1 l2 (in_frame f) → world.StepFailed g how of s1 f s2 got → RanOn g s s2 how source sink
-  ran_failed status.SinkFault may quiet sunk last f formed read failed = ran_sink f formed read (sunk refl) failed
-  ran_failed status.JournalFault may quiet sunk last f formed read failed = ran_journal f may formed read (quiet (λ e. cc)) (last (λ e. cc)) failed
-  ran_failed status.Memory may quiet sunk last f formed read failed = ran_memory f may formed read (quiet (λ e. cc)) (last (λ e. cc)) failed
-  ran_failed status.CloudFault may quiet sunk last f formed read failed =
-      ran_restart status.CloudFault f failed (are_few, restart_failed status.CloudFault f may read (quiet (λ e. cc)) (last (λ e. cc)) failed)
-  ran_failed (status.Foreign at) may quiet sunk last f formed read failed =
-      ran_restart (status.Foreign at) f failed (are_few, restart_failed (status.Foreign at) f may read (quiet (λ e. cc)) (last (λ e. cc)) failed)
-  ran_failed (status.Missing name) may quiet sunk last f formed read failed =
-      ran_restart (status.Missing name) f failed (are_few, restart_failed (status.Missing name) f may read (quiet (λ e. cc)) (last (λ e. cc)) failed)
-  ran_failed (status.Damaged name damage) may quiet sunk last f formed read failed =
-      ran_restart (status.Damaged name damage) f failed (are_few, restart_failed (status.Damaged name damage) f may read (quiet (λ e. cc)) (last (λ e. cc)) failed)
-  ran_failed status.Worn may quiet sunk last f formed read failed =
-      ran_restart status.Worn f failed (are_few, restart_failed status.Worn f may read (quiet (λ e. cc)) (last (λ e. cc)) failed)
-  ran_failed status.Done may quiet sunk last f formed read failed = absurd failed
-  ran_failed status.Words may quiet sunk last f formed read failed = absurd failed
-  ran_failed (status.Malformed at) may quiet sunk last f formed read failed = absurd failed
-  ran_failed status.Early may quiet sunk last f formed read failed = absurd failed
-  ran_failed status.SourceFault may quiet sunk last f formed read failed = absurd failed
-  ran_failed status.Long may quiet sunk last f formed read failed = absurd failed
-  ran_failed status.Settings may quiet sunk last f formed read failed = absurd failed
+  ran_failed : (how : Status) → MayRefuse how course.last → ((how ≡ status.SinkFault → ⊥) → y ≡ x) → (how ≡ status.SinkFault → g3 ≡ g2) → (how ≢ status.SinkFault → GaveEnding finished [] how)
+      → StepStopped g how of s1 s2 (record { had = l1; left = l2 }) got → RanOn g settings s s2 how source sink
+  ran_failed status.SinkFault may quiet sunk last why = ran_sink why.f why.formed why.took (sunk refl) why.claims why.failed
+  ran_failed status.JournalFault may quiet sunk last why = ran_journal why may (quiet (λ e. cc)) (last (λ e. cc)) why.failed
+  ran_failed status.Memory may quiet sunk last why = ran_memory why may (quiet (λ e. cc)) (last (λ e. cc)) why.failed
+  ran_failed status.CloudFault may quiet sunk last why =
+      ran_restart status.CloudFault (λ end ends. (are_few, ends)) why.untouched_cloud (restart_ends status.CloudFault why.f may why.took (quiet (λ e. cc)) (last (λ e. cc)) why.claims why.untouched why.failed)
+  ran_failed (status.Foreign at) may quiet sunk last why =
+      ran_restart (status.Foreign at) (λ end ends. (are_few, ends)) why.untouched_cloud (restart_ends (status.Foreign at) why.f may why.took (quiet (λ e. cc)) (last (λ e. cc)) why.claims why.untouched why.failed)
+  ran_failed (status.Missing name) may quiet sunk last why =
+      ran_restart (status.Missing name) (λ end ends. (are_few, ends)) why.untouched_cloud (restart_ends (status.Missing name) why.f may why.took (quiet (λ e. cc)) (last (λ e. cc)) why.claims why.untouched why.failed)
+  ran_failed (status.Damaged name damage) may quiet sunk last why =
+      ran_restart (status.Damaged name damage) (λ end ends. (are_few, ends)) why.untouched_cloud (restart_ends (status.Damaged name damage) why.f may why.took (quiet (λ e. cc)) (last (λ e. cc)) why.claims why.untouched why.failed)
+  ran_failed status.Worn may quiet sunk last why =
+      ran_restart status.Worn (λ end ends. (are_few, ends)) why.untouched_cloud (restart_ends status.Worn why.f may why.took (quiet (λ e. cc)) (last (λ e. cc)) why.claims why.untouched why.failed)
+  ran_failed status.Done may quiet sunk last why = absurd why.failed
+  ran_failed status.Words may quiet sunk last why = absurd why.failed
+  ran_failed (status.Malformed at) may quiet sunk last why = absurd why.failed
+  ran_failed status.Early may quiet sunk last why = absurd why.failed
+  ran_failed status.SourceFault may quiet sunk last why = absurd why.failed
+  ran_failed status.Long may quiet sunk last why = absurd why.failed
+  ran_failed status.Settings may quiet sunk last why = absurd why.failed
 
   -- a run that stops, whatever for
-  pub ran_stopped : (why : Stop) (v : Status) → MayStop why going.state → ((why ≡ stop.Failed status.SinkFault → ⊥) → y ≡ x) → StoppedBy g why of s1 s2 (record { had = l1; left = l2 }) got → Finishes why place v finished → RanOn g s s2 v source sink
+  pub ran_stopped : (why : Stop) (v : Status) → MayStop why course.last → ((why ≡ stop.Failed status.SinkFault → ⊥) → y ≡ x) → StoppedBy g why of s1 s2 (record { had = l1; left = l2 }) got → Finishes why place v finished → RanOn g settings s s2 v source sink
   ran_stopped stop.End v may quiet by fin = ran_done v by fin
   ran_stopped stop.Malformed v may quiet by fin = ran_malformed v (quiet (λ e. cc)) by fin
   ran_stopped stop.Early v may quiet by fin = ran_early v (quiet (λ e. cc)) by fin
   ran_stopped stop.SourceFault v may quiet by fin = ran_source v (quiet (λ e. cc)) by fin
   ran_stopped (stop.Failed how) v may quiet by fin =
-      ran_as g s s2 v how source sink fin.0
-      (ran_failed how may (λ other. quiet (λ e. other cc)) (λ e. (fin.1 e).0) fin.2 by.0 by.1 by.2 by.3)
+      ran_as g settings s s2 v how source sink fin.0
+      (ran_failed how may (λ other. quiet (λ e. other cc)) (λ e. (fin.1 e).0) fin.2 by)
 
 -- a run that reads as many frames as it may
-pub ran_long : {S : Type 0} (g : Ghosts S) (told : Bool) (found : Found) (of : WorldView) (s s0 s1 : S) (had l0 l1 before g0 g1 g2 : Option (List ℕ)) (place count x y z : ℕ) → Opened g s s0 found → Had had l0 magic
-    → Given before g0 (session_bytes found []) → Going g told found of s0 s1 l0 l1 g0 g1 place count → g.disk_faults s1 ≡ g.disk_faults s0 → g.cloud_faults s1 ≡ g.cloud_faults s0
+pub ran_long : {S : Type 0} (g : Ghosts S) (settings : Fields) (told : Bool) (found : Found) (of : WorldView) (s s0 s1 : S) (had l0 l1 before g0 g1 g2 : Option (List ℕ)) (place count x y z : ℕ) → Opened g settings s s0 found → Had had l0 magic
+    → Given before g0 (session_bytes found []) → Going g settings told found of s0 s1 l0 l1 g0 g1 place count → g.disk_faults s1 ≡ g.disk_faults s0 → g.cloud_faults s1 ≡ g.cloud_faults s0
     → count ≡ frame_limit → y ≡ x
     → GaveEnding (record { before = g1; after = g2; faults_before = y; faults_after = z }) [] status.Long
-    → RanOn g s s1 status.Long (record { had = had; left = l1 }) (record { before = before; after = g2; faults_before = x; faults_after = z })
-ran_long g told found of s s0 s1 had l0 l1 before g0 g1 g2 place count x y z opened begun given going disk cloud all quiet last =
-    let same : told ≡ tells g s = going.told_then ∙ opened.tells in
-    let floor : ℕ = going.state.kept.mark in
+    → RanOn g settings s s1 status.Long (record { had = had; left = l1 }) (record { before = before; after = g2; faults_before = x; faults_after = z })
+ran_long g settings told found of s s0 s1 had l0 l1 before g0 g1 g2 place count x y z opened begun given going disk cloud all quiet last =
+    let course : Course = going.course in
     record {
       found = found;
-      frames = going.frames;
-      answers = going.answers;
-      last = going.state;
-      floor = floor;
-      reached = going.state.kept;
+      course = course;
+      end = end_at course;
       opened = opened.found_on;
-      handled = subst (λ (b : Bool). Handled Scarce (start b found) going.frames going.answers going.state) same going.handled;
+      begins = going.begins ∙ ap (λ (b : Bool). start b found) (going.told_then ∙ opened.tells);
+      handled = going.handled;
       ends = (
-        (going.count_is ∙ all, so_far had l0 l1 going.frames begun going.read),
-        ending_then before g1 g2 x y z (session_bytes found going.answers) status.Long quiet (given_so_far found before g0 g1 going.answers given going.written) last,
-        (refl, refl),
+        (going.count_is ∙ all, so_far had l0 l1 course.frames begun going.read),
+        record {
+          gave = ending_then before g1 g2 x y z (session_bytes found course.answers) status.Long quiet (given_so_far found before g0 g1 course.answers given going.written) last;
+          end_is = refl;
+        },
       );
-      quiet = inr (quiet_before g told found of s s0 s1 l0 l1 g0 g1 place count opened going disk cloud);
-      leaves = subst (λ (b : Bool). LeavesOfRun g s s1 (start b found) going.frames floor going.state.kept) same (leaves_still g told found of s s0 s1 l0 l1 g0 g1 place count opened going);
+      last_step = inr (record {
+        world = of;
+        site = s1;
+        stands = going.stands;
+        disk = disk ∙ opened.disk;
+        cloud = cloud ∙ opened.cloud;
+        untouched = λ e. absurd cc;
+        untouched_cloud = tt;
+      });
+      leaves = leaves_still g settings told found of s s0 s1 l0 l1 g0 g1 place count opened going;
     }
 
 -- ---- which status it comes to

@@ -1,5 +1,5 @@
 -- What a run of `replay` did with its source, its sink and its site, by the status with which it ended.
-use Rattle.std.specs.Prelude.{◌≡◌, ◌≢◌, ◌+◌, ◌<◌, ◌≤◌, ◌^◌, ◌⊎◌, ℕ, true, List, [], ◌∷◌, ◌++◌, length, take, Option, Some}
+use Rattle.std.specs.Prelude.{◌≡◌, ◌≢◌, ◌+◌, ◌<◌, ◌≤◌, ◌^◌, ◌⊎◌, ℕ, true, List, [], ◌∷◌, ◌++◌, length, sum_by, take, Option, None, Some}
 use Rattle.std.specs.List.{AllByRecursion}
 use Rattle.sky_base.specs.declared.status.Status.{Status}
 use Rattle.sky_base.specs.declared.status.Status.TheVariants.{Done, Words, Malformed, Early, SourceFault, SinkFault, JournalFault, CloudFault, Memory, Foreign, Missing, Damaged, Worn, Long, Settings}
@@ -10,32 +10,42 @@ use Rattle.sky_outside.specs.Told.{WhereTold, Had, Given}
 use Rattle.sky_outside.specs.declared.storage.Storage.{Ghosts}
 use Rattle.sky_xdr.specs.Encoding.{AreBytes}
 use Rattle.sky_recover.specs.Opening.{Found, IsFoundOn, LeavesFound, WhereBothTold}
-use Rattle.sky_script.specs.Frame.{InFrame, Begin, Bytes, End, OutFrame, Ended, IsInFrame, session_count, in_frame, in_frames, out_frame, out_frames, magic}
+use Rattle.sky_script.specs.Frame.{InFrame, Begin, Bytes, End as EndFrame, Restart, OutFrame, Ended, IsInFrame, session_count, in_frame, in_frames, out_frame, out_frames, magic}
 use Rattle.sky_script.specs.Beginning.{IsRefused, IsCutShort}
-use Rattle.sky_settings.specs.Settings.{default_fields}
+use Rattle.sky_settings.specs.declared.settings.Fields.{Fields}
+use Rattle.sky_sound.specs.Boot.{Claims, MayClaim}
 use Rattle.sky_sound.specs.Recovery.{FindsSame}
-use Rattle.sky_world.specs.Finding as step
 use Rattle.sky_world.specs.Finding.{FindsPrefix, floor_of, reached}
 use Rattle.sky_world.specs.Laws.{NoneOutOfMemory}
 use Rattle.sky_world.specs.Meaning.{State, Kept, Absent, Memory as Supply, Ample, Scarce, start, opening, session_at, Step, Steps}
-use Rattle.sky_world.specs.Opening.{IsRefusedAs, LeavesRefusedAs, MayRefuse}
-use Rattle.sky_world.specs.World.{IsRestart, Stands, WorldView, tells}
+use Rattle.sky_world.specs.Opening.{IsRefusedAs, LeavesCloudAs, LeavesRefusedAs, MayRefuse}
+use Rattle.sky_world.specs.World.{IsRestart, Stands, WorldView, restarts_by, tells}
 
 -- how many frames a recording may have, the end among them
 abbrev pub frame_limit : ℕ
 frame_limit = 2 ^ 32
 
--- for now the settings are those where nothing is said: the volume, and the size of one of the two areas of its journal
-abbrev pub volume : ℕ
-volume = default_fields.volume
+-- ---- what is handled
 
-abbrev pub area_size : ℕ
-area_size = default_fields.journal_area
+-- The course of a run: the state of its opening, the frames that it handled from there on, their answers, and the state after them.
+pub record Course : Type 0 where
+  pub first : State
+  pub frames : List InFrame
+  pub answers : List OutFrame
+  pub last : State
 
--- Frames that were handled, with so much memory, from an opening on: these answers came, and this is the state after them.
-pub record Handled (memory : Supply) (first : State) (frames : List InFrame) (answers : List OutFrame) (last : State) : Type 0 where
-  pub formed : AllByRecursion IsInFrame frames
-  pub steps : Steps memory first frames answers last
+-- before any frame
+abbrev pub no_course : State → Course
+no_course first = record { first = first; frames = []; answers = []; last = first }
+
+-- and with a frame more, that was answered by these and led to this state
+abbrev pub further : Course → InFrame → List OutFrame → State → Course
+further course f outs new = record { first = course.first; frames = course.frames ++ f ∷ []; answers = course.answers ++ outs; last = new }
+
+-- with so much memory, each frame of a course has a step, and they are what leads from its first state to its last
+pub record IsCourse (memory : Supply) (course : Course) : Type 0 where
+  pub formed : AllByRecursion IsInFrame course.frames
+  pub steps : Steps memory course.first course.frames course.answers course.last
 
 -- the bytes of a recording: the magic, these frames, and what follows
 abbrev pub recording : List InFrame → List ℕ → List ℕ
@@ -44,6 +54,10 @@ recording frames next = magic ++ in_frames frames ++ next
 -- the bytes of what is written: the magic, the frame of the opening that found this, and answers
 abbrev pub session_bytes : Found → List OutFrame → List ℕ
 session_bytes found answers = magic ++ out_frames (opening found ∷ answers)
+
+-- how many of these frames are restarts, each of which claims an epoch
+abbrev pub restarts_in : List InFrame → ℕ
+restarts_in frames = sum_by restarts_by frames
 
 -- ---- what a run does with its source
 
@@ -77,7 +91,7 @@ AreFew frames = length frames < frame_limit
 
 -- how far it was read behind these frames, by the status, where the bytes decide that
 abbrev pub ReadTo : Status → SourceUse → List InFrame → Type 0
-ReadTo Done source frames = AreFew frames × Took source (recording frames (in_frame End))
+ReadTo Done source frames = AreFew frames × Took source (recording frames (in_frame EndFrame))
 ReadTo (Malformed at) source frames = AreFew frames × TookRefused source frames at
 ReadTo Early source frames = AreFew frames × TookPart source frames × WhereTold source.left (λ rest. rest ≡ [])
 ReadTo Long source frames = (length frames ≡ frame_limit) × Took source (recording frames [])
@@ -115,62 +129,110 @@ pub record SinkCounts (before now : ℕ) (status : Status) : Type 0 where
   pub cause : status ≡ SinkFault → Rose before now
   pub quiet : status ≡ Done → now ≡ before
 
+-- what a run used, and what its opening found
+pub record Used : Type 0 where
+  pub source : SourceUse
+  pub sink : SinkUse
+  pub found : Found
+
+-- what it had written behind a course
+abbrev pub written_by : Used → Course → List ℕ
+written_by used course = session_bytes used.found course.answers
+
 -- ---- what a run does with its site
 
 -- what a crash leaves within a step, from this state by this frame to that one: recovery finds a prefix of the history
 abbrev pub LeftWithin : State → InFrame → State → OfPair
 LeftWithin old f new image objects = FindsPrefix (floor_of f old) (reached f old new) image objects
 
--- What a crash leaves within one of the steps of these frames, handled from a state on.
-pub record LeftBetween (first : State) (frames : List InFrame) (image : List ℕ) (objects : CloudMap) : Type 0 where
+-- What a crash leaves within one of the steps of a course. The answers are those of the course: those of the frames before, those of the step, and the rest.
+pub record LeftBetween (course : Course) (image : List ℕ) (objects : CloudMap) : Type 0 where
   -- the frames before the step, its own, and those behind it
   pub before : List InFrame
   pub f : InFrame
   pub behind : List InFrame
-  pub parts : frames ≡ before ++ f ∷ behind
-  pub answers : List OutFrame
-  pub old : State
-  pub handled : Steps Scarce first before answers old
+  pub parts : course.frames ≡ before ++ f ∷ behind
+  pub said : List OutFrame
   pub outs : List OutFrame
+  pub rest : List OutFrame
+  pub answers : course.answers ≡ said ++ outs ++ rest
+  pub old : State
   pub new : State
+  pub handled : Steps Scarce course.first before said old
   pub step : Step Scarce old f outs new
+  pub goes_on : Steps Scarce new behind rest course.last
   pub left : LeftWithin old f new image objects
 
--- From s to t, over a run that handled these frames from its opening, and then ended within a step, or behind the last one, where this was the
--- floor and what was reached. Where the site tells what it has, after a crash at any moment recovery finds the same as at the start, or what a
--- crash leaves within one of the steps; and after a crash behind the run, a prefix of the history that holds the floor.
-pub record LeavesOfRun {S : Type 0} (g : Ghosts S) (s t : S) (first : State) (frames : List InFrame) (floor : ℕ) (reached : Kept) : Type 0 where
+-- What a run came to: the course that decides what a crash leaves of it; how many changes recovery finds at least behind the run, and of which history;
+-- how many epochs were claimed; and the restart that came to no end, if one did.
+pub record End : Type 0 where
+  pub handled : Course
+  pub floor : ℕ
+  pub kept : Kept
+  pub claims : ℕ
+  pub restart : Option InFrame
+
+-- behind a course, between two steps: the mark, and each restart claimed an epoch, as the opening did
+abbrev pub end_at : Course → End
+end_at course = record {
+  handled = course;
+  floor = course.last.kept.mark;
+  kept = course.last.kept;
+  claims = 1 + restarts_in course.frames;
+  restart = None;
+}
+
+-- From s to t, over a run that came to this end. Where the site tells what it has, after a crash at any moment recovery finds the same as at the start, or what a
+-- crash leaves within one of the steps, or what is found behind the run; and after a crash behind it, that alone. In the cloud nothing was changed
+-- but by the boot objects of the epochs.
+pub record LeavesOfRun {S : Type 0} (g : Ghosts S) (settings : Fields) (s t : S) (end : End) : Type 0 where
   pub any_moment : WhereBothTold g s (λ read held. LeavesOnly g s t (λ image objects.
-      FindsSame volume area_size read held image objects ⊎ LeftBetween first frames image objects ⊎ FindsPrefix floor reached image objects))
+      FindsSame settings.volume settings.journal_area read held image objects ⊎ LeftBetween end.handled image objects ⊎ FindsPrefix end.floor end.kept image objects))
   pub behind : WhereBothTold g s (λ read held. (image : List ℕ) (objects : CloudMap) → MayLeaveNow g t image objects
-      → FindsPrefix floor reached image objects)
+      → FindsPrefix end.floor end.kept image objects)
+  pub boots : Claims end.claims (g.objects s) (g.objects t)
 
 -- ---- how a run ends
 
--- The sink failed: at the frame of the opening, before anything was read; at the answer to the frame that was read last, of which it got less
--- than all; or at the last frame, behind the end.
-pub data SinkFailed (source : SourceUse) (sink : SinkUse) (found : Found) (frames : List InFrame) (answers : List OutFrame) (last : State) (floor : ℕ) (reached : Kept) : Type 0 where
-  at_opening : frames ≡ [] → floor ≡ last.kept.mark → reached ≡ last.kept → TookNothing source → GaveUpTo sink magic (out_frame (opening found))
-      → SinkFailed source sink found frames answers last floor reached
-  at_answer : (f : InFrame) (outs : List OutFrame) (new : State) → IsInFrame f → Step Scarce last f outs new → floor ≡ floor_of f last → reached ≡ step.reached f last new
-      → Took source (recording frames (in_frame f)) → GaveUpTo sink (session_bytes found answers) (out_frames outs) → SinkFailed source sink found frames answers last floor reached
-  at_end : floor ≡ last.kept.mark → reached ≡ last.kept → Took source (recording frames (in_frame End)) → GaveUpTo sink (session_bytes found answers) (out_frame (Ended Done))
-      → SinkFailed source sink found frames answers last floor reached
+-- The answers to the frame that was read last were not given whole: the sink failed at them.
+pub record AnswerFailed (used : Used) (course : Course) (end : End) : Type 0 where
+  pub f : InFrame
+  pub outs : List OutFrame
+  pub new : State
+  pub formed : IsInFrame f
+  pub step : Step Scarce course.last f outs new
+  pub took : Took used.source (recording course.frames (in_frame f))
+  pub gave : GaveUpTo used.sink (written_by used course) (out_frames outs)
+  pub end_is : end ≡ record {
+    handled = course;
+    floor = floor_of f course.last;
+    kept = reached f course.last new;
+    claims = 1 + restarts_in (course.frames ++ f ∷ []);
+    restart = None;
+  }
+
+-- The sink failed: at the frame of the opening, before anything was read; at the answers to the frame that was read last; or at the last frame, behind the end.
+pub data SinkFailed (used : Used) (course : Course) (end : End) : Type 0 where
+  at_opening : course.frames ≡ [] → end ≡ end_at course → TookNothing used.source → GaveUpTo used.sink magic (out_frame (opening used.found))
+      → SinkFailed used course end
+  at_answer : AnswerFailed used course end → SinkFailed used course end
+  at_end : end ≡ end_at course → Took used.source (recording course.frames (in_frame EndFrame)) → GaveUpTo used.sink (written_by used course) (out_frame (Ended Done))
+      → SinkFailed used course end
 
 -- A restart, which was read last, came to no end, and the run ended with this status, which such a restart may be refused with: a site that tells what
--- it has is refused for nothing but that no epoch is left. All that was written before it was given.
-pub record RestartFailed (source : SourceUse) (sink : SinkUse) (found : Found) (frames : List InFrame) (answers : List OutFrame) (last : State) (status : Status) (floor : ℕ) (reached : Kept) : Type 0 where
+-- it has is refused for nothing but that no epoch is left. All that was written before it was given. It may have claimed its epoch.
+pub record EndsInRestart (used : Used) (course : Course) (status : Status) (end : End) : Type 0 where
   pub f : InFrame
   pub restart : IsRestart f
-  pub cause : MayRefuse status last
-  pub floor_is : floor ≡ floor_of f last
-  pub reached_is : reached ≡ last.kept
-  pub took : Took source (recording frames (in_frame f))
-  pub gave : GaveEnding sink (session_bytes found answers) status
+  pub cause : MayRefuse status course.last
+  pub took : Took used.source (recording course.frames (in_frame f))
+  pub gave : GaveEnding used.sink (written_by used course) status
+  pub claims : (end.claims ≡ 1 + restarts_in course.frames) ⊎ (end.claims ≡ 1 + restarts_in (course.frames ++ f ∷ []))
+  pub end_is : end ≡ record { handled = course; floor = floor_of f course.last; kept = course.last.kept; claims = end.claims; restart = Some f }
 
 -- A call of the journal's disk failed in a record of the frame that was read last. Of that frame, cut behind this record, the sink was
 -- given all answers but the last one.
-pub record RecordFailed (source : SourceUse) (sink : SinkUse) (found : Found) (frames : List InFrame) (answers : List OutFrame) (last : State) (floor : ℕ) (reached : Kept) : Type 0 where
+pub record RecordFailed (used : Used) (course : Course) (end : End) : Type 0 where
   pub session : ℕ
   pub payload : List ℕ
   pub cut : ℕ
@@ -178,74 +240,69 @@ pub record RecordFailed (source : SourceUse) (sink : SinkUse) (found : Found) (f
   pub unsaid : OutFrame
   pub new : State
   pub formed : IsInFrame (Bytes session payload)
-  pub stepped : Step Scarce last (Bytes session (take cut payload)) (outs ++ unsaid ∷ []) new
-  pub floor_is : floor ≡ last.kept.mark
-  pub reached_is : reached ≡ new.kept
-  pub took : Took source (recording frames (in_frame (Bytes session payload)))
-  pub gave : GaveEnding sink (session_bytes found (answers ++ outs)) JournalFault
+  pub stepped : Step Scarce course.last (Bytes session (take cut payload)) (outs ++ unsaid ∷ []) new
+  pub took : Took used.source (recording course.frames (in_frame (Bytes session payload)))
+  pub gave : GaveEnding used.sink (session_bytes used.found (course.answers ++ outs)) JournalFault
+  pub end_is : end ≡ record { handled = course; floor = course.last.kept.mark; kept = new.kept; claims = 1 + restarts_in course.frames; restart = None }
 
 -- There was no memory for a session that had not begun before, and begins in the frame that was read last.
-pub record BeginFailed (source : SourceUse) (sink : SinkUse) (found : Found) (frames : List InFrame) (answers : List OutFrame) (last : State) : Type 0 where
+pub record BeginFailed (used : Used) (course : Course) (end : End) : Type 0 where
   pub session : ℕ
   pub within : session < session_count
-  pub absent : session_at last session ≡ Absent
-  pub took : Took source (recording frames (in_frame (Begin session)))
-  pub gave : GaveEnding sink (session_bytes found answers) Memory
+  pub absent : session_at course.last session ≡ Absent
+  pub took : Took used.source (recording course.frames (in_frame (Begin session)))
+  pub gave : GaveEnding used.sink (written_by used course) Memory
+  pub end_is : end ≡ end_at course
 
--- the run ended between two steps
-abbrev pub AtRest : ℕ → Kept → State → Type 0
-AtRest floor reached last = (floor ≡ last.kept.mark) × (reached ≡ last.kept)
+-- the run ended between two steps, and the last frame says so
+pub record RanToRest (used : Used) (course : Course) (status : Status) (end : End) : Type 0 where
+  pub gave : GaveEnding used.sink (written_by used course) status
+  pub end_is : end ≡ end_at course
 
--- what was read and written behind these frames and their answers, by the status, and what a crash then leaves
-abbrev pub EndsBy : Status → SourceUse → SinkUse → Found → List InFrame → List OutFrame → State → ℕ → Kept → Type 0
-EndsBy Done source sink found frames answers last floor reached =
-    ReadTo Done source frames × Gave sink (session_bytes found (answers ++ Ended Done ∷ [])) × AtRest floor reached last
-EndsBy (Malformed at) source sink found frames answers last floor reached =
-    ReadTo (Malformed at) source frames × GaveEnding sink (session_bytes found answers) (Malformed at) × AtRest floor reached last
-EndsBy Early source sink found frames answers last floor reached =
-    ReadTo Early source frames × GaveEnding sink (session_bytes found answers) Early × AtRest floor reached last
-EndsBy Long source sink found frames answers last floor reached =
-    ReadTo Long source frames × GaveEnding sink (session_bytes found answers) Long × AtRest floor reached last
-EndsBy SourceFault source sink found frames answers last floor reached =
-    AreFew frames × TookPart source frames × GaveEnding sink (session_bytes found answers) SourceFault × AtRest floor reached last
-EndsBy SinkFault source sink found frames answers last floor reached = AreFew frames × SinkFailed source sink found frames answers last floor reached
-EndsBy JournalFault source sink found frames answers last floor reached =
-    AreFew frames × (RecordFailed source sink found frames answers last floor reached ⊎ RestartFailed source sink found frames answers last JournalFault floor reached)
-EndsBy Memory source sink found frames answers last floor reached =
-    AreFew frames × (BeginFailed source sink found frames answers last × AtRest floor reached last ⊎ RestartFailed source sink found frames answers last Memory floor reached)
-EndsBy CloudFault source sink found frames answers last floor reached = AreFew frames × RestartFailed source sink found frames answers last CloudFault floor reached
-EndsBy (Foreign at) source sink found frames answers last floor reached = AreFew frames × RestartFailed source sink found frames answers last (Foreign at) floor reached
-EndsBy (Missing name) source sink found frames answers last floor reached = AreFew frames × RestartFailed source sink found frames answers last (Missing name) floor reached
-EndsBy (Damaged name damage) source sink found frames answers last floor reached =
-    AreFew frames × RestartFailed source sink found frames answers last (Damaged name damage) floor reached
-EndsBy Worn source sink found frames answers last floor reached = AreFew frames × RestartFailed source sink found frames answers last Worn floor reached
+-- what was read and written behind a course, by the status, and to what it came
+abbrev pub EndsBy : Status → Used → Course → End → Type 0
+EndsBy Done used course end =
+    ReadTo Done used.source course.frames × Gave used.sink (session_bytes used.found (course.answers ++ Ended Done ∷ [])) × (end ≡ end_at course)
+EndsBy (Malformed at) used course end = ReadTo (Malformed at) used.source course.frames × RanToRest used course (Malformed at) end
+EndsBy Early used course end = ReadTo Early used.source course.frames × RanToRest used course Early end
+EndsBy Long used course end = ReadTo Long used.source course.frames × RanToRest used course Long end
+EndsBy SourceFault used course end = AreFew course.frames × TookPart used.source course.frames × RanToRest used course SourceFault end
+EndsBy SinkFault used course end = AreFew course.frames × SinkFailed used course end
+EndsBy JournalFault used course end = AreFew course.frames × (RecordFailed used course end ⊎ EndsInRestart used course JournalFault end)
+EndsBy Memory used course end = AreFew course.frames × (BeginFailed used course end ⊎ EndsInRestart used course Memory end)
+EndsBy CloudFault used course end = AreFew course.frames × EndsInRestart used course CloudFault end
+EndsBy (Foreign at) used course end = AreFew course.frames × EndsInRestart used course (Foreign at) end
+EndsBy (Missing name) used course end = AreFew course.frames × EndsInRestart used course (Missing name) end
+EndsBy (Damaged name damage) used course end = AreFew course.frames × EndsInRestart used course (Damaged name damage) end
+EndsBy Worn used course end = AreFew course.frames × EndsInRestart used course Worn end
 -- these come before an opening
-EndsBy Words source sink found frames answers last floor reached = ⊥
-EndsBy Settings source sink found frames answers last floor reached = ⊥
+EndsBy Words used course end = ⊥
+EndsBy Settings used course end = ⊥
 
--- Up to a site on which a world stands for this state, the counts of faults were what they were at s: no call of its devices had failed.
-pub record QuietBefore {S : Type 0} (g : Ghosts S) (s : S) (state : State) : Type 0 where
+-- The last step of a run from s to t, behind a course that came to this end with this status: a site on which a world stands for the state. Up to it the
+-- counts of faults were what they were at s, as no call of the devices had failed; and a restart that was refused in it for what the site has, left that as it was.
+pub record LastStep {S : Type 0} (g : Ghosts S) (s t : S) (state : State) (status : Status) (end : End) : Type 0 where
   pub world : WorldView
   pub site : S
   pub stands : Stands g world site state
   pub disk : g.disk_faults site ≡ g.disk_faults s
   pub cloud : g.cloud_faults site ≡ g.cloud_faults s
+  pub untouched : end.restart ≡ Some Restart → LeavesRefusedAs g site t status
+  pub untouched_cloud : LeavesCloudAs g site t status
 
--- A run from s to t that opened the site, and ended with this status: it handled these frames of what the source had, gave the sink all their
+-- A run from s to t that opened the site, and ended with this status: it handled the frames of a course from the opening on, gave the sink all their
 -- answers, and then ended so. For some of the calls there may have been no memory. No crash loses a change that was stable. A call
 -- of the site that failed is one of the last step: none failed before it, but where the sink failed at the frame of the opening.
-pub record RanOn {S : Type 0} (g : Ghosts S) (s t : S) (status : Status) (source : SourceUse) (sink : SinkUse) : Type 0 where
+pub record RanOn {S : Type 0} (g : Ghosts S) (settings : Fields) (s t : S) (status : Status) (source : SourceUse) (sink : SinkUse) : Type 0 where
   pub found : Found
-  pub frames : List InFrame
-  pub answers : List OutFrame
-  pub last : State
-  pub floor : ℕ
-  pub reached : Kept
-  pub opened : IsFoundOn g volume area_size s found
-  pub handled : Handled Scarce (start (tells g s) found) frames answers last
-  pub ends : EndsBy status source sink found frames answers last floor reached
-  pub quiet : ((status ≡ SinkFault) × (frames ≡ [])) ⊎ QuietBefore g s last
-  pub leaves : LeavesOfRun g s t (start (tells g s) found) frames floor reached
+  pub course : Course
+  pub end : End
+  pub opened : IsFoundOn g settings.volume settings.journal_area s found
+  pub begins : course.first ≡ start (tells g s) found
+  pub handled : IsCourse Scarce course
+  pub ends : EndsBy status (record { source = source; sink = sink; found = found }) course end
+  pub last_step : ((status ≡ SinkFault) × (course.frames ≡ [])) ⊎ LastStep g s t course.last status end
+  pub leaves : LeavesOfRun g settings s t end
 
 -- what was written by a run that did not open its site: nothing, where the words or the settings were refused; or the magic, and the last frame
 abbrev pub GaveUnopened : Status → SinkUse → Type 0
@@ -262,40 +319,41 @@ GaveUnopened Worn sink = GaveEnding sink magic Worn
 GaveUnopened _ sink = ⊥
 
 -- A run from s to t that did not open its site, and ended with this status: nothing was read. A site that was refused for what it has is left as it
--- was, and after a crash at any moment recovery finds the same as before.
-pub record RanUnopened {S : Type 0} (g : Ghosts S) (s t : S) (status : Status) (source : SourceUse) (sink : SinkUse) : Type 0 where
+-- was, and after a crash at any moment recovery finds the same as before. In the cloud nothing was changed but by the boot object of one epoch.
+pub record RanUnopened {S : Type 0} (g : Ghosts S) (settings : Fields) (s t : S) (status : Status) (source : SourceUse) (sink : SinkUse) : Type 0 where
   pub took : TookNothing source
   pub gave : GaveUnopened status sink
-  pub refused : WhereBothTold g s (IsRefusedAs volume area_size status)
+  pub refused : WhereBothTold g s (IsRefusedAs settings.volume settings.journal_area status)
   pub untouched : LeavesRefusedAs g s t status
-  pub leaves : LeavesFound g volume area_size s t
+  pub leaves : LeavesFound g settings.volume settings.journal_area s t
+  pub boots : MayClaim 1 (g.objects s) (g.objects t)
 
-abbrev pub Ran : {S : Type 0} → Ghosts S → S → S → Status → SourceUse → SinkUse → Type 0
-Ran g s t status source sink = RanUnopened g s t status source sink ⊎ RanOn g s t status source sink
+abbrev pub Ran : {S : Type 0} → Ghosts S → Fields → S → S → Status → SourceUse → SinkUse → Type 0
+Ran g settings s t status source sink = RanUnopened g settings s t status source sink ⊎ RanOn g settings s t status source sink
 
 -- ---- what the bytes of a source ask for
 
--- A reading of a recording, with so much memory, from this opening on: these frames are handled, with these answers, and then it stops
--- with this status and leaves the rest.
-pub record IsReading (memory : Supply) (first : State) (bytes : List ℕ) (frames : List InFrame) (answers : List OutFrame) (last : State) (status : Status) (rest : List ℕ) : Type 0 where
-  pub handled : Handled memory first frames answers last
-  pub read : ReadTo status (record { had = Some bytes; left = Some rest }) frames
+-- A reading of a recording, with so much memory: a course of its frames is handled, and then it stops with this status and leaves the rest.
+pub record IsReading (memory : Supply) (bytes : List ℕ) (course : Course) (status : Status) (rest : List ℕ) : Type 0 where
+  pub handled : IsCourse memory course
+  pub read : ReadTo status (record { had = Some bytes; left = Some rest }) course.frames
 
 -- From each opening of a site that tells what it has, a recording has a reading with memory for every call, and no two. How much memory there is,
 -- and what was found, does not matter to the frames, the status and the rest, on no site; and a reading whose answers do not tell a want
 -- of memory is the one with memory for every call.
 pub record HasOneReading (bytes : List ℕ) : Type 0 where
-  pub some : (found : Found) → AreBytes bytes → (frames : List InFrame) × (answers : List OutFrame) × (last : State) × (status : Status) × (rest : List ℕ)
-      × IsReading Ample (start true found) bytes frames answers last status rest
-  pub one : (found : Found) (frames others : List InFrame) (answers replies : List OutFrame) (last end : State) (status verdict : Status) (rest more : List ℕ)
-      → IsReading Ample (start true found) bytes frames answers last status rest → IsReading Ample (start true found) bytes others replies end verdict more
-      → (frames ≡ others) × (answers ≡ replies) × (last ≡ end) × (status ≡ verdict) × (rest ≡ more)
-  pub any : (memory supply : Supply) (first other : State) (frames others : List InFrame) (answers replies : List OutFrame) (last end : State) (status verdict : Status) (rest more : List ℕ)
-      → IsReading memory first bytes frames answers last status rest → IsReading supply other bytes others replies end verdict more
-      → (frames ≡ others) × (status ≡ verdict) × (rest ≡ more)
-  pub told : (found : Found) (frames : List InFrame) (answers : List OutFrame) (last : State) (status : Status) (rest : List ℕ)
-      → IsReading Scarce (start true found) bytes frames answers last status rest → NoneOutOfMemory answers
-      → IsReading Ample (start true found) bytes frames answers last status rest
+  pub some : (found : Found) → AreBytes bytes → (course : Course) × (status : Status) × (rest : List ℕ)
+      × (course.first ≡ start true found) × IsReading Ample bytes course status rest
+  pub one : (found : Found) (course other : Course) (status verdict : Status) (rest more : List ℕ)
+      → course.first ≡ start true found → other.first ≡ start true found
+      → IsReading Ample bytes course status rest → IsReading Ample bytes other verdict more
+      → (course.frames ≡ other.frames) × (course.answers ≡ other.answers) × (course.last ≡ other.last) × (status ≡ verdict) × (rest ≡ more)
+  pub any : (memory supply : Supply) (course other : Course) (status verdict : Status) (rest more : List ℕ)
+      → IsReading memory bytes course status rest → IsReading supply bytes other verdict more
+      → (course.frames ≡ other.frames) × (status ≡ verdict) × (rest ≡ more)
+  pub told : (found : Found) (course : Course) (status : Status) (rest : List ℕ) → course.first ≡ start true found
+      → IsReading Scarce bytes course status rest → NoneOutOfMemory course.answers
+      → IsReading Ample bytes course status rest
 
 -- the statuses that blame a device or the memory, or what the site had
 abbrev pub IsFree : Status → Type 0
@@ -313,8 +371,7 @@ IsFree _ = ⊥
 -- the status is that of the reading of these bytes, whatever was found, unless it blames a device, the memory, or what the site had
 abbrev pub IsExact : Status → List ℕ → Type 0
 IsExact status bytes =
-    (memory : Supply) (first : State) (frames : List InFrame) (answers : List OutFrame) (last : State) (expected : Status) (rest : List ℕ)
-    → IsReading memory first bytes frames answers last expected rest → (status ≡ expected) ⊎ IsFree status
+    (memory : Supply) (course : Course) (expected : Status) (rest : List ℕ) → IsReading memory bytes course expected rest → (status ≡ expected) ⊎ IsFree status
 
 -- a status that says what the site had is none of a site that is sound
 abbrev pub IsOfDamage : Status → Type 0

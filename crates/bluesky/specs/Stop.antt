@@ -5,24 +5,27 @@ use Rattle.sky_base.specs.declared.status.Status.TheVariants as status
 use Rattle.sky_outside.specs.Count.{Rose}
 use Rattle.sky_outside.specs.Told.{WhereTold, Had, Given}
 use Rattle.sky_outside.specs.declared.storage.Storage.{Ghosts}
-use Rattle.sky_script.specs.Frame.{InFrame, End as EndFrame, Ended, IsInFrame, in_frame, out_frame, magic}
+use Rattle.sky_script.specs.Frame.{InFrame, End as EndFrame, Restart, Ended, IsInFrame, in_frame, out_frame, magic}
 use Rattle.sky_script.specs.Beginning.{IsRefused, IsCutShort, HadSome}
 use Rattle.sky_script.specs.declared.reading.FrameFault.{FrameFault}
 use Rattle.sky_script.specs.declared.reading.FrameFault.TheVariants as fault
 use Rattle.sky_recover.specs.Opening.{Found, IsFoundOn, LeavesFound}
 use Rattle.sky_world.specs.Meaning.{State}
-use Rattle.sky_world.specs.Opening.{IsOfOpening, MayRefuse}
-use Rattle.sky_world.specs.World.{WorldView, SinkGot, StepFailed, DidNothing, tells}
-use Rattle.bluesky.specs.Run.{SourceUse, Took, SinkUse, Gave, GaveUpTo, GaveEnding, RanOn, session_bytes, volume, area_size}
+use Rattle.sky_settings.specs.declared.settings.Fields.{Fields}
+use Rattle.sky_sound.specs.Boot.{Claims}
+use Rattle.sky_world.specs.Opening.{IsOfOpening, LeavesCloudAs, LeavesRefusedAs, MayRefuse}
+use Rattle.sky_world.specs.World.{ClaimsFailed, WorldView, SinkGot, StepFailed, DidNothing, restarts_by, tells}
+use Rattle.bluesky.specs.Run.{SourceUse, Took, SinkUse, Gave, GaveUpTo, GaveEnding, RanOn, session_bytes}
 use Rattle.bluesky.specs.declared.frames.Stop.{Stop}
 use Rattle.bluesky.specs.declared.frames.Stop.TheVariants.{End, Malformed, Early, SourceFault, Failed}
 
--- From s to t a site was opened, which found this: recovery finds the same at each moment, the site tells as much as before, and no call of its
--- devices failed.
-pub record Opened {S : Type 0} (g : Ghosts S) (s t : S) (found : Found) : Type 0 where
+-- From s to t a site was opened with these settings, which found this: recovery finds the same at each moment, the epoch was claimed, the site tells as much as
+-- before, and no call of its devices failed.
+pub record Opened {S : Type 0} (g : Ghosts S) (settings : Fields) (s t : S) (found : Found) : Type 0 where
   pub size : g.bytes_of t ≡ g.bytes_of s
-  pub found_on : IsFoundOn g volume area_size s found
-  pub leaves : LeavesFound g volume area_size s t
+  pub found_on : IsFoundOn g settings.volume settings.journal_area s found
+  pub leaves : LeavesFound g settings.volume settings.journal_area s t
+  pub claims : Claims 1 (g.objects s) (g.objects t)
   pub tells : tells g t ≡ tells g s
   pub disk : g.disk_faults t ≡ g.disk_faults s
   pub cloud : g.cloud_faults t ≡ g.cloud_faults s
@@ -48,13 +51,23 @@ abbrev pub MayStop : Stop → State → Type 0
 MayStop (Failed how) state = MayRefuse how state
 MayStop _ state = Unit {0}
 
+-- From s to t a step failed with this status: that of the frame that was read last.
+pub record StepStopped {S : Type 0} (g : Ghosts S) (how : Status) (world : WorldView) (s t : S) (source : SourceUse) (sink : SinkGot) : Type 0 where
+  pub f : InFrame
+  pub formed : IsInFrame f
+  pub took : Took source (in_frame f)
+  pub failed : StepFailed g how world s f t sink
+  pub claims : ClaimsFailed how (restarts_by f) (g.objects s) (g.objects t)
+  pub untouched : f ≡ Restart → LeavesRefusedAs g s t how
+  pub untouched_cloud : LeavesCloudAs g s t how
+
 -- what is known where no further frame was read and handled, by why: what that call did from s to t, and what the world was before
 abbrev pub StoppedBy : {S : Type 0} → Ghosts S → Stop → WorldView → S → S → SourceUse → SinkGot → Type 0
 StoppedBy g End world s t source sink = Took source (in_frame EndFrame) × DidNothing s t sink
 StoppedBy g Malformed world s t source sink = HadSome IsRefused source.had source.left × DidNothing s t sink
 StoppedBy g Early world s t source sink = HadSome IsCutShort source.had source.left × WhereTold source.left (λ rest. rest ≡ []) × DidNothing s t sink
 StoppedBy g SourceFault world s t source sink = HadSome IsCutShort source.had source.left × DidNothing s t sink
-StoppedBy g (Failed how) world s t source sink = (f : InFrame) × IsInFrame f × Took source (in_frame f) × StepFailed g how world s f t sink
+StoppedBy g (Failed how) world s t source sink = StepStopped g how world s t source sink
 
 -- from a stop at this place, a run ends with this status, and does this with its sink
 abbrev pub Finishes : Stop → ℕ → Status → SinkUse → Type 0
@@ -69,16 +82,16 @@ Finishes (Failed how) place s sink =
 
 -- Frames were handled, from t to u, with this end: of each run that had opened its site, at t, read the magic, and written the
 -- frame of the opening, that is what it did.
-abbrev pub RanBehind : {S : Type 0} → Ghosts S → Found → S → S → Status → SourceUse → SinkUse → Type 0
-RanBehind {S} g found t u status source sink =
-    (s : S) (had before : Option (List ℕ)) → Opened g s t found → Had had source.had magic → Given before sink.before (session_bytes found [])
-    → RanOn g s u status (record source { had = had }) (record sink { before = before })
+abbrev pub RanBehind : {S : Type 0} → Ghosts S → Fields → Found → S → S → Status → SourceUse → SinkUse → Type 0
+RanBehind {S} g settings found t u status source sink =
+    (s : S) (had before : Option (List ℕ)) → Opened g settings s t found → Had had source.had magic → Given before sink.before (session_bytes found [])
+    → RanOn g settings s u status (record source { had = had }) (record sink { before = before })
 
 -- the status of a run that found no magic
-abbrev pub status_of : FrameFault → Status
-status_of fault.Malformed = status.Malformed 0
-status_of fault.Early = status.Early
-status_of fault.SourceFault = status.SourceFault
+abbrev pub magic_status_of : FrameFault → Status
+magic_status_of fault.Malformed = status.Malformed 0
+magic_status_of fault.Early = status.Early
+magic_status_of fault.SourceFault = status.SourceFault
 
 -- eight bytes that are not the magic
 abbrev pub IsOtherMagic : List ℕ → Type 0

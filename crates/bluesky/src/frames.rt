@@ -10,7 +10,8 @@ ghost use Rattle.sky_script.specs.Values.{frame_of};
 ghost use Rattle.sky_world.specs.Carried.{IsServing};
 ghost use Rattle.sky_recover.specs.Opening.{Found};
 ghost use Rattle.sky_world.specs.Meaning.{State, start, IsStep};
-ghost use Rattle.sky_world.specs.World.{Stands, Stepped};
+ghost use Rattle.sky_sound.specs.Boot.{Claims};
+ghost use Rattle.sky_world.specs.World.{Stands, Stepped, restarts_by};
 ghost use Rattle.bluesky.specs.Run.{IsOfDamage, IsReplayed, SinkCounts};
 ghost use Rattle.bluesky.specs.Stop.{IsFailed, IsStop, MayStop, stop_of, StoppedBy, RanBehind};
 
@@ -73,6 +74,7 @@ fn do_frame<K: Sink, P: Site>(
     requires serving { IsServing P.Storage world.old.service site.old }
     ensures ok { OnOk result (Stepped P.Storage world.old site.old (frame_of frame.now) world.new site.new
         (record { before = K.written sink.old; after = K.written sink.new })) }
+    ensures claims { OnOk result (Claims (restarts_by (frame_of frame.now)) (P.objects site.old) (P.objects site.new)) }
     ensures going { OnOk result (world.new.ended ≡ false) }
     ensures serving { OnOk result (IsServing P.Storage world.new.service site.new) }
     ensures stopped { IfErr result (λ stop. (had left : Option (List ℕ)) → Had had left (in_frame (frame_of frame.now))
@@ -104,7 +106,8 @@ fn next_frame<S: Source, K: Sink, P: Site>(
     requires serving { IsServing P.Storage world.old.service site.old }
     ensures ok { IfOk result (λ len. (f : InFrame) × IsInFrame f × (len ≡ length (in_frame f))
         × Had (S.left source.old) (S.left source.new) (in_frame f)
-        × Stepped P.Storage world.old site.old f world.new site.new (record { before = K.written sink.old; after = K.written sink.new })) }
+        × Stepped P.Storage world.old site.old f world.new site.new (record { before = K.written sink.old; after = K.written sink.new })
+        × Claims (restarts_by f) (P.objects site.old) (P.objects site.new)) }
     ensures going { OnOk result (world.new.ended ≡ false) }
     ensures serving { OnOk result (IsServing P.Storage world.new.service site.new) }
     ensures stopped { IfErr result (λ stop. StoppedBy P.Storage stop world.old site.old site.new
@@ -139,7 +142,7 @@ pub fn handle_frames<S: Source, K: Sink, P: Site>(
 ) -> Status
     requires going { world.ended ≡ false }
     requires serving { IsServing P.Storage world.service site.old }
-    ensures ran { (told : Bool) (found : Found) → Stands P.Storage world site.old (start told found) → RanBehind P.Storage found site.old site.new result
+    ensures ran { (told : Bool) (found : Found) → Stands P.Storage world site.old (start told found) → RanBehind P.Storage world.settings found site.old site.new result
         (record { had = S.left source.old; left = S.left source.new })
         (record {
           before = K.written sink.old;

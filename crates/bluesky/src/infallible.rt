@@ -1,13 +1,15 @@
 //! What is promised where no device can fail.
 
-ghost use Rattle.std.specs.Prelude.{◌≡◌, ◌<◌, ◌↔◌, ◌⊎◌, map, string_bytes, length, Some, None, ℕ, List};
-ghost use Rattle.sky_script.specs.Frame.{InFrame, OutFrame};
+ghost use Rattle.std.specs.Prelude.{◌≡◌, ◌<◌, ◌↔◌, ◌⊎◌, ◌+◌, ◌≤◌, map, string_bytes, length, Some, None, ℕ, List};
 ghost use Rattle.sky_base.specs.declared.status.Status.{Status};
-ghost use Rattle.sky_world.specs.Meaning.{State, Memory};
+ghost use Rattle.sky_world.specs.Meaning.{Memory};
 ghost use Rattle.sky_recover.specs.Opening.{WhereBothTold};
 ghost use Rattle.sky_sound.specs.Recovery.{IsSound};
 ghost use Rattle.bluesky.specs.Words.{IsReplay};
-ghost use Rattle.bluesky.specs.Run.{Ran, IsReading, IsReplayed, area_size, volume};
+ghost use Rattle.sky_base.specs.Limits.{max_number};
+ghost use Rattle.sky_settings.specs.Settings.{default_fields};
+ghost use Rattle.sky_sound.specs.Cloud.{epoch_after};
+ghost use Rattle.bluesky.specs.Run.{Course, Ran, IsReading, IsReplayed, restarts_in};
 
 use crate::run::run;
 use sky_base::Status;
@@ -17,7 +19,7 @@ use std::alloc::Global;
 
 /// Runs a command over devices that never fail, as `run` does.
 ///
-/// Where the site is sound, the answer is the status that the recording asks for, or there's no memory, or no epoch is left.
+/// Where the site is sound, the answer is the status that the recording asks for, or there's no memory; or no epoch is left, which needs 2^62 of them.
 pub fn run_infallible(
     alloc: Global,
     words: &[String],
@@ -30,13 +32,14 @@ pub fn run_infallible(
     ensures settings { (result ≡ Status.Settings)
         ↔ (IsReplay (map string_bytes words.now) × (0 < length settings.now)) }
     // The source tells its bytes, and the sink tells nothing.
-    ensures ran { Ran ⟦<SureSite as Storage>⟧ site.old site.new result (record { had = Some source.old; left = Some source.new })
+    ensures ran { Ran ⟦<SureSite as Storage>⟧ default_fields site.old site.new result (record { had = Some source.old; left = Some source.new })
         (record { before = None; after = None; faults_before = 0; faults_after = 0 }) }
-    // The status is the one that the recording asks for, unless memory runs out, or no epoch is left.
-    ensures complete { IsReplayed result → WhereBothTold ⟦<SureSite as Storage>⟧ site.old (IsSound volume area_size)
-        → (memory : Memory) (first : State) (frames : List InFrame) (answers : List OutFrame) (last : State) (status : Status) (rest : List ℕ)
-        → IsReading memory first source.old frames answers last status rest
-        → (result ≡ status) ⊎ (result ≡ Status.Memory) ⊎ (result ≡ Status.Worn) }
+    // The status is the one that the recording asks for, unless memory runs out, or so many epochs were claimed that none is left.
+    ensures complete { IsReplayed result → WhereBothTold ⟦<SureSite as Storage>⟧ site.old (λ image objects.
+        IsSound default_fields.volume default_fields.journal_area image objects
+        → (memory : Memory) (course : Course) (status : Status) (rest : List ℕ) → IsReading memory source.old course status rest
+        → (result ≡ status) ⊎ (result ≡ Status.Memory)
+        ⊎ (result ≡ Status.Worn) × (max_number ≤ epoch_after objects + restarts_in course.frames)) }
 {
     run(alloc, words, settings, source, sink, site)
 }

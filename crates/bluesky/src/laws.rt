@@ -3,7 +3,8 @@
 ghost use Rattle.std.specs.Prelude.{ℕ, List, ◌*◌, ◌≤◌, replicate};
 ghost use Rattle.std.specs.FinMap.{empty};
 ghost use Rattle.sky_sound.specs.Recovery.{IsSound};
-ghost use Rattle.bluesky.specs.Run.{HasOneReading, area_size, volume};
+ghost use Rattle.sky_settings.specs.Settings.{default_fields};
+ghost use Rattle.bluesky.specs.Run.{HasOneReading};
 
 use sky_sound::a_blank_site_is_sound;
 
@@ -16,7 +17,7 @@ pub fn each_recording_has_one_reading()
 
 /// A disk of zeros that has room for the two areas of a journal, and a cloud with no objects, are a sound site: a run can open it.
 pub fn a_blank_site_can_be_opened()
-    ensures { (bytes : ℕ) → 2 * area_size ≤ bytes → IsSound volume area_size (replicate bytes 0) empty }
+    ensures { (bytes : ℕ) → 2 * default_fields.journal_area ≤ bytes → IsSound default_fields.volume default_fields.journal_area (replicate bytes 0) empty }
 {
     a_blank_site_is_sound();
 }

@@ -6,14 +6,16 @@ ghost use Rattle.sky_outside.specs.Moments.{NothingPending};
 ghost use Rattle.sky_outside.specs.Told.{WhereTold, Had, Given, GivenPart};
 ghost use Rattle.sky_recover.specs.Opening.{Found, IsFoundOn, LeavesFound, WhereBothTold};
 ghost use Rattle.sky_script.specs.Frame.{magic, out_frame};
+ghost use Rattle.sky_settings.specs.Settings.{default_fields};
+ghost use Rattle.sky_sound.specs.Boot.{Claims};
 ghost use Rattle.sky_sound.specs.Recovery.{IsSound};
 ghost use Rattle.sky_world.specs.Carried.{IsServing};
 ghost use Rattle.sky_world.specs.Meaning.{start, opening};
 ghost use Rattle.sky_world.specs.Opening.{IsOfOpening, IsRefusedAs, LeavesRefusedAs};
-ghost use Rattle.sky_world.specs.World.{Stands, tells};
+ghost use Rattle.sky_world.specs.World.{ClaimsFailed, Stands, tells};
 ghost use Rattle.bluesky.specs.Words.{IsReplay};
-ghost use Rattle.bluesky.specs.Run.{Ran, RanOn, IsExact, IsOfDamage, IsReplayed, SinkCounts, area_size, session_bytes, volume};
-ghost use Rattle.bluesky.specs.Stop.{NoMagic, Opened, status_of};
+ghost use Rattle.bluesky.specs.Run.{Ran, RanOn, IsExact, IsOfDamage, IsReplayed, SinkCounts, session_bytes};
+ghost use Rattle.bluesky.specs.Stop.{NoMagic, Opened, magic_status_of};
 
 use crate::ending::{end_failed, end_with};
 use crate::frames::handle_frames;
@@ -48,18 +50,22 @@ fn open<K: Sink, P: Site>(
     alloc: Global,
     sink: &mut K,
     site: &mut P,
+    settings: Settings,
 ) -> Result<(FrameBuf, World), Status>
     requires settled { NothingPending P.Storage site.old }
-    ensures world { IfOk result (λ opened. (found : Found) × Opened P.Storage site.old site.new found
+    ensures world { IfOk result (λ opened. (found : Found) × Opened P.Storage settings site.old site.new found
         × Stands P.Storage opened.1 site.new (start (tells P.Storage site.old) found) × Given (K.written sink.old) (K.written sink.new) (out_frame (opening found))) }
+    ensures settings { IfOk result (λ opened. opened.1.settings ≡ settings) }
     ensures going { IfOk result (λ opened. opened.1.ended ≡ false) }
     ensures serving { IfOk result (λ opened. IsServing P.Storage opened.1.service site.new) }
     ensures unwritten { IfErr result (λ status. IsOfOpening status → sink.new ≡ sink.old) }
-    ensures partly { IsErrOf result Status.SinkFault → (found : Found) × IsFoundOn P.Storage volume area_size site.old found
+    ensures partly { IsErrOf result Status.SinkFault → (found : Found) × IsFoundOn P.Storage settings.volume settings.journal_area site.old found
         × GivenPart (K.written sink.old) (K.written sink.new) (out_frame (opening found)) }
-    ensures any_moment { LeavesFound P.Storage volume area_size site.old site.new }
-    ensures refused { IfErr result (λ status. WhereBothTold P.Storage site.old (IsRefusedAs volume area_size status)) }
+    ensures any_moment { LeavesFound P.Storage settings.volume settings.journal_area site.old site.new }
+    ensures refused { IfErr result (λ status. WhereBothTold P.Storage site.old (IsRefusedAs settings.volume settings.journal_area status)) }
     ensures untouched { IfErr result (LeavesRefusedAs P.Storage site.old site.new) }
+    ensures claims { OnOk result (Claims 1 (P.objects site.old) (P.objects site.new)) }
+    ensures claims_failed { IfErr result (λ status. ClaimsFailed status 1 (P.objects site.old) (P.objects site.new)) }
     ensures statuses { IfErr result (λ status. IsOfOpening status ⊎ (status ≡ Status.SinkFault)) }
     ensures size { P.bytes_of site.new ≡ P.bytes_of site.old }
     ensures journal_cause { Counts (P.disk_faults site.old) (P.disk_faults site.new) (IsErrOf result Status.JournalFault) }
@@ -69,7 +75,7 @@ fn open<K: Sink, P: Site>(
     let Ok(buf) = FrameBuf::new(alloc) else {
         return Err(Status::Memory);
     };
-    let world = World::start(alloc, site, sink, Settings::new())?;
+    let world = World::start(alloc, site, sink, settings)?;
     Ok((buf, world))
 }
 
@@ -93,7 +99,7 @@ fn read_magic<S: Source>(source: &mut S) -> Result<(), FrameFault>
 
 /// The status of a run that found no magic.
 fn magic_status(fault: FrameFault) -> Status
-    ensures { result ≡ status_of fault }
+    ensures { result ≡ magic_status_of fault }
 {
     match fault {
         FrameFault::Malformed => Status::Malformed { at: 0 },
@@ -113,9 +119,9 @@ fn replay_opened<S: Source, K: Sink, P: Site>(
 ) -> Status
     requires going { world.ended ≡ false }
     requires serving { IsServing P.Storage world.service site.old }
-    ensures ran { (first : P) (before : Option (List ℕ)) (found : Found) → Opened P.Storage first site.old found
+    ensures ran { (first : P) (before : Option (List ℕ)) (found : Found) → Opened P.Storage world.settings first site.old found
         → Stands P.Storage world site.old (start (tells P.Storage first) found) → Given before (K.written sink.old) (session_bytes found [])
-        → RanOn P.Storage first site.new result
+        → RanOn P.Storage world.settings first site.new result
         (record { had = S.left source.old; left = S.left source.new })
         (record {
           before = before;
@@ -143,9 +149,10 @@ fn replay<S: Source, K: Sink, P: Site>(
     source: &mut S,
     sink: &mut K,
     site: &mut P,
+    settings: Settings,
 ) -> Status
     requires settled { NothingPending P.Storage site.old }
-    ensures ran { Ran P.Storage site.old site.new result
+    ensures ran { Ran P.Storage settings site.old site.new result
         (record { had = S.left source.old; left = S.left source.new })
         (record {
           before = K.written sink.old;
@@ -154,7 +161,7 @@ fn replay<S: Source, K: Sink, P: Site>(
           faults_after = K.faults sink.new;
         }) }
     ensures replayed { IsReplayed result }
-    ensures sound { IsOfDamage result → WhereBothTold P.Storage site.old (λ image objects. IsSound volume area_size image objects → ⊥) }
+    ensures sound { IsOfDamage result → WhereBothTold P.Storage site.old (λ image objects. IsSound settings.volume settings.journal_area image objects → ⊥) }
     ensures size { P.bytes_of site.new ≡ P.bytes_of site.old }
     ensures source_cause { Counts (S.faults source.old) (S.faults source.new) (result ≡ Status.SourceFault) }
     ensures journal_cause { Counts (P.disk_faults site.old) (P.disk_faults site.new) (result ≡ Status.JournalFault) }
@@ -164,7 +171,7 @@ fn replay<S: Source, K: Sink, P: Site>(
     if let Err(status) = write_magic(sink) {
         return status;
     }
-    match open(alloc, sink, site) {
+    match open(alloc, sink, site, settings) {
         Ok((buf, world)) => replay_opened(alloc, source, sink, site, buf, world),
         Err(status) => end_failed(sink, status),
     }
@@ -199,7 +206,7 @@ pub fn run<S: Source, K: Sink, P: Site>(
 
     // What was read, what was written, and what recovery finds after a crash at any moment, by the status: the meaning of the frames that were
     // handled, in the history that the site stood for.
-    ensures ran { Ran P.Storage site.old site.new result
+    ensures ran { Ran P.Storage default_fields site.old site.new result
         (record { had = S.left source.old; left = S.left source.new })
         (record {
           before = K.written sink.old;
@@ -209,7 +216,7 @@ pub fn run<S: Source, K: Sink, P: Site>(
         }) }
 
     // No sound site is refused for what it has.
-    ensures sound { IsOfDamage result → WhereBothTold P.Storage site.old (λ image objects. IsSound volume area_size image objects → ⊥) }
+    ensures sound { IsOfDamage result → WhereBothTold P.Storage site.old (λ image objects. IsSound default_fields.volume default_fields.journal_area image objects → ⊥) }
 
     // Each other status is the one that the bytes of the source ask for.
     ensures exact { IsReplayed result → WhereTold (S.left source.old) (IsExact result) }
@@ -228,5 +235,5 @@ pub fn run<S: Source, K: Sink, P: Site>(
     if !settings.is_empty() {
         return Status::Settings;
     }
-    replay(alloc, source, sink, site)
+    replay(alloc, source, sink, site, Settings::new())
 }

@@ -56,6 +56,13 @@ LeavesRefusedAs g s t (Damaged name damage) = LeavesRefused g s t (Lost (lost.Da
 LeavesRefusedAs g s t Worn = LeavesRefused g s t fault.Worn
 LeavesRefusedAs g s t _ = Unit {0}
 
+-- the same of its cloud alone, also where the journal was given up before
+abbrev pub LeavesCloudAs : {S : Type 0} → Ghosts S → S → S → Status → Type 0
+LeavesCloudAs g s t (Missing name) = g.objects t ≡ g.objects s
+LeavesCloudAs g s t (Damaged name damage) = g.objects t ≡ g.objects s
+LeavesCloudAs g s t Worn = g.objects t ≡ g.objects s
+LeavesCloudAs g s t _ = Unit {0}
+
 -- A restart may be refused with this status: where the site does not tell what it has; or since no epoch is left.
 abbrev pub MayRefuse : Status → State → Type 0
 MayRefuse (Foreign at) state = state.told ≡ false

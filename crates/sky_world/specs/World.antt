@@ -14,6 +14,7 @@ use Rattle.sky_script.specs.Frame as frame
 use Rattle.sky_script.specs.Frame.{InFrame, Begin, Bytes, OutFrame, out_frames, session_count}
 use Rattle.sky_script.specs.declared.frame.Stats.{Stats}
 use Rattle.sky_settings.specs.declared.settings.Fields.{Fields}
+use Rattle.sky_sound.specs.Boot.{Claims, MayClaim}
 use Rattle.sky_sound.specs.Cloud.{checkpoint_in, cloud_tree, covers_of, epoch_after}
 use Rattle.sky_world.specs.declared.sessions.Session.{Session}
 use Rattle.sky_world.specs.declared.sessions.Session.TheVariants.{Absent, Open, Closed}
@@ -152,6 +153,18 @@ abbrev pub IsRestart : InFrame → Type 0
 IsRestart frame.Restart = Unit {0}
 IsRestart frame.RestartWithoutJournal = Unit {0}
 IsRestart _ = ⊥
+
+-- how many epochs a frame claims: a restart claims one
+abbrev pub restarts_by : InFrame → ℕ
+restarts_by frame.Restart = 1
+restarts_by frame.RestartWithoutJournal = 1
+restarts_by _ = 0
+
+-- what a frame or an opening that failed with this status did to the cloud, where it claims so many epochs: it claimed them where the sink was
+-- what failed, and may have claimed them else
+abbrev pub ClaimsFailed : Status → ℕ → Option CloudMap → Option CloudMap → Type 0
+ClaimsFailed SinkFault n old new = Claims n old new
+ClaimsFailed _ n old new = MayClaim n old new
 
 -- A restart came to no end: nothing was written, and after a crash at any moment recovery finds a prefix of the history from before.
 pub record RestartFailed {S : Type 0} (g : Ghosts S) (old : WorldView) (s : S) (f : InFrame) (t : S) (sink : SinkGot) : Type 0 where

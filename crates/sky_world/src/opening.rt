@@ -1,13 +1,13 @@
 //! Opening a site, and the status of a run where that is refused.
 
-ghost use Rattle.std.specs.Prelude.{◌≡◌, IfOk, IfErr, IsErrOf, OnOk};
+ghost use Rattle.std.specs.Prelude.{◌≡◌, IfOk, IfErr, IsErrOf, OnErr, OnOk};
 ghost use Rattle.sky_nfs.specs.History.{History, last_tree, history_length};
 ghost use Rattle.sky_outside.specs.Count.{Counts};
 ghost use Rattle.sky_outside.specs.Moments.{NothingPending};
 ghost use Rattle.sky_outside.specs.Told.{BothTold};
 ghost use Rattle.sky_recover.specs.Opening.{Found, IsFoundOn, IsOpenOn, LeavesFound, WhereBothTold};
 ghost use Rattle.sky_script.specs.Frame.{Opened as OpenedFrame};
-ghost use Rattle.sky_sound.specs.Boot.{claimed};
+ghost use Rattle.sky_sound.specs.Boot.{Claims, MayClaim};
 ghost use Rattle.sky_world.specs.Meaning.{opening};
 ghost use Rattle.sky_world.specs.Opening.{IsOfOpening, IsRefusedAs, LeavesRefusedAs, status_of};
 
@@ -45,7 +45,8 @@ pub fn open_site<S: Site>(
         × IsOpenOn S.Storage site.new found × (r.0.tree ≡ last_tree found.history) × (r.0.journal ≡ found.journal)
         × (opening found ≡ OpenedFrame r.1.epoch r.1.k r.1.journal) × (r.1.epoch ≡ found.epoch)) }
     ensures any_moment { LeavesFound S.Storage settings.now.volume settings.now.journal_area site.old site.new }
-    ensures claims { OnOk result (BothTold (λ old new. new ≡ claimed old) (S.objects site.old) (S.objects site.new)) }
+    ensures claims { OnOk result (Claims 1 (S.objects site.old) (S.objects site.new)) }
+    ensures unclaimed { OnErr result (MayClaim 1 (S.objects site.old) (S.objects site.new)) }
     ensures tells { OnOk result (BothTold (λ old new. Unit {0}) (S.image site.old) (S.image site.new)) }
     ensures refused { IfErr result (λ status. WhereBothTold S.Storage site.old
         (IsRefusedAs settings.now.volume settings.now.journal_area status)) }

@@ -12,12 +12,12 @@ ghost use Rattle.sky_script.specs.Values.{frame_of};
 ghost use Rattle.sky_world.specs.Carried.{IsServing};
 ghost use Rattle.sky_world.specs.Feeding.{Answers, Fails, Feeds, FeedFails, Handled, HandledPart, HandledDown};
 ghost use Rattle.sky_recover.specs.Opening.{Found, IsFoundOn, IsOpenOn, LeavesFound, WhereBothTold};
-ghost use Rattle.sky_sound.specs.Boot.{claimed};
+ghost use Rattle.sky_sound.specs.Boot.{Claims, MayClaim};
 ghost use Rattle.sky_world.specs.Meaning.{State, start as started, opening, frame_for, IsStep};
-ghost use Rattle.sky_world.specs.Opening.{IsOfOpening, IsRefusedAs, LeavesRefusedAs, MayRefuse, reopened_world};
+ghost use Rattle.sky_world.specs.Opening.{IsOfOpening, IsRefusedAs, LeavesCloudAs, LeavesRefusedAs, MayRefuse, reopened_world};
 ghost use Rattle.sky_world.specs.Sessions.{IsReady, closed};
 ghost use Rattle.sky_world.specs.declared.sessions.Session.{Session};
-ghost use Rattle.sky_world.specs.World.{ServiceView, Stands, StepFailed, Stepped, SteppedPart, SteppedDown, IsRestart, stats_shown, tells};
+ghost use Rattle.sky_world.specs.World.{ClaimsFailed, ServiceView, Stands, StepFailed, Stepped, SteppedPart, SteppedDown, IsRestart, restarts_by, stats_shown, tells};
 
 use crate::opening::open_site;
 use crate::reply::ReplyBuf;
@@ -265,6 +265,7 @@ impl World {
         ensures world { IfOk result (λ world. (found : Found) × IsFoundOn S.Storage settings.volume settings.journal_area site.old found
             × Stands S.Storage world site.new (started (tells S.Storage site.old) found)
             × Given (K.written sink.old) (K.written sink.new) (out_frame (opening found))) }
+        ensures settings { IfOk result (λ world. world.settings ≡ settings) }
         ensures going { IfOk result (λ world. world.ended ≡ false) }
         ensures serving { IfOk result (λ world. IsServing S.Storage world.service site.new) }
         ensures unwritten { IfErr result (λ status. IsOfOpening status → sink.new ≡ sink.old) }
@@ -273,8 +274,9 @@ impl World {
 
         // After a crash at any moment recovery finds the same as before.
         ensures any_moment { LeavesFound S.Storage settings.volume settings.journal_area site.old site.new }
-        // The epoch is claimed in the cloud.
-        ensures claims { OnOk result (BothTold (λ old new. new ≡ claimed old) (S.objects site.old) (S.objects site.new)) }
+        // The epoch is claimed in the cloud, and nothing else is done there.
+        ensures claims { OnOk result (Claims 1 (S.objects site.old) (S.objects site.new)) }
+        ensures claims_failed { IfErr result (λ status. ClaimsFailed status 1 (S.objects site.old) (S.objects site.new)) }
 
         // Each refusal has its cause on the site, and a site that is refused for what it has is left as it was.
         ensures refused { IfErr result (λ status. WhereBothTold S.Storage site.old (IsRefusedAs settings.volume settings.journal_area status)) }
@@ -440,11 +442,13 @@ impl World {
             × (self.new ≡ reopened_world self.old found) × (opening found ≡ frames.Opened opened.epoch opened.k opened.journal)) }
         ensures err { OnErr result (self.new ≡ self.old) }
         ensures any_moment { LeavesFound S.Storage self.old.settings.volume self.old.settings.journal_area site.old site.new }
-        ensures claims { OnOk result (BothTold (λ old new. new ≡ claimed old) (S.objects site.old) (S.objects site.new)) }
+        ensures claims { OnOk result (Claims 1 (S.objects site.old) (S.objects site.new)) }
+        ensures unclaimed { OnErr result (MayClaim 1 (S.objects site.old) (S.objects site.new)) }
         ensures tells { OnOk result (BothTold (λ old new. Unit {0}) (S.image site.old) (S.image site.new)) }
         ensures refused { IfErr result (λ status. WhereBothTold S.Storage site.old
             (IsRefusedAs self.old.settings.volume self.old.settings.journal_area status)) }
         ensures untouched { IfErr result (LeavesRefusedAs S.Storage site.old site.new) }
+        ensures untouched_cloud { IfErr result (LeavesCloudAs S.Storage site.old site.new) }
         ensures statuses { IfErr result IsOfOpening }
         ensures size { S.bytes_of site.new ≡ S.bytes_of site.old }
         ensures disk_cause { Counts (S.disk_faults site.old) (S.disk_faults site.new) (IsErrOf result Status.JournalFault) }
@@ -469,7 +473,10 @@ impl World {
         ensures serving { OnOk result (IsServing S.Storage self.new.service site.new) }
         ensures failed { IfErr result (λ status. StepFailed S.Storage status self.old site.old frames.Restart site.new
             (record { before = K.written sink.old; after = K.written sink.new })) }
+        ensures claims { OnOk result (Claims 1 (S.objects site.old) (S.objects site.new)) }
+        ensures claims_failed { IfErr result (λ status. ClaimsFailed status 1 (S.objects site.old) (S.objects site.new)) }
         ensures refused { IfErr result (λ status. (state : State) → Stands S.Storage self.old site.old state → MayRefuse status state) }
+        ensures untouched_cloud { IfErr result (LeavesCloudAs S.Storage site.old site.new) }
         ensures untouched { IfErr result (LeavesRefusedAs S.Storage site.old site.new) }
         ensures statuses { IfErr result (λ status. IsOfOpening status ⊎ (status ≡ Status.SinkFault)) }
         ensures size { S.bytes_of site.new ≡ S.bytes_of site.old }
@@ -494,7 +501,10 @@ impl World {
         ensures serving { OnOk result (IsServing S.Storage self.new.service site.new) }
         ensures failed { IfErr result (λ status. StepFailed S.Storage status self.old site.old frames.RestartWithoutJournal site.new
             (record { before = K.written sink.old; after = K.written sink.new })) }
+        ensures claims { OnOk result (Claims 1 (S.objects site.old) (S.objects site.new)) }
+        ensures claims_failed { IfErr result (λ status. ClaimsFailed status 1 (S.objects site.old) (S.objects site.new)) }
         ensures refused { IfErr result (λ status. (state : State) → Stands S.Storage self.old site.old state → MayRefuse status state) }
+        ensures untouched_cloud { IfErr result (LeavesCloudAs S.Storage site.old site.new) }
         ensures statuses { IfErr result (λ status. IsOfOpening status ⊎ (status ≡ Status.SinkFault)) }
         ensures size { S.bytes_of site.new ≡ S.bytes_of site.old }
         ensures disk_cause { Counts (S.disk_faults site.old) (S.disk_faults site.new) (IsErrOf result Status.JournalFault) }
@@ -525,7 +535,10 @@ impl World {
         ensures failed { IfErr result (λ status. StepFailed S.Storage status self.old site.old (frame_of frame.now) site.new
             (record { before = K.written sink.old; after = K.written sink.new })) }
         ensures unchanged { IsErrOf result Status.Memory → (IsRestart (frame_of frame.now) → ⊥) → self.new ≡ self.old }
+        ensures claims { OnOk result (Claims (restarts_by (frame_of frame.now)) (S.objects site.old) (S.objects site.new)) }
+        ensures claims_failed { IfErr result (λ status. ClaimsFailed status (restarts_by (frame_of frame.now)) (S.objects site.old) (S.objects site.new)) }
         ensures refused { IfErr result (λ status. (state : State) → Stands S.Storage self.old site.old state → MayRefuse status state) }
+        ensures untouched_cloud { IfErr result (LeavesCloudAs S.Storage site.old site.new) }
         ensures untouched { frame_of frame.now ≡ frames.Restart → IfErr result (LeavesRefusedAs S.Storage site.old site.new) }
         ensures objects { (IsRestart (frame_of frame.now) → ⊥) → S.objects site.new ≡ S.objects site.old }
         ensures statuses { IfErr result (λ status. IsOfOpening status ⊎ (status ≡ Status.SinkFault)) }
@@ -590,8 +603,11 @@ impl World {
 
         // A restart refuses no site that tells what it has, unless no epoch is left. What it refuses for what it has is left as it was.
         ensures refused { IfErr result (λ status. (state : State) → Stands S.Storage self.old site.old state → MayRefuse status state) }
+        ensures untouched_cloud { IfErr result (LeavesCloudAs S.Storage site.old site.new) }
         ensures untouched { frame_of frame.now ≡ frames.Restart → IfErr result (LeavesRefusedAs S.Storage site.old site.new) }
-        // No frame but a restart touches the cloud.
+        // No frame but a restart touches the cloud, and that by its epoch alone.
+        ensures claims { OnOk result (Claims (restarts_by (frame_of frame.now)) (S.objects site.old) (S.objects site.new)) }
+        ensures claims_failed { IfErr result (λ status. ClaimsFailed status (restarts_by (frame_of frame.now)) (S.objects site.old) (S.objects site.new)) }
         ensures objects { (IsRestart (frame_of frame.now) → ⊥) → S.objects site.new ≡ S.objects site.old }
         ensures statuses { IfErr result (λ status. IsOfOpening status ⊎ (status ≡ Status.SinkFault)) }
         ensures ended { self.new.ended ≡ is_err result }

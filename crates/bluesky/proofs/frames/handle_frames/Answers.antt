@@ -10,7 +10,7 @@ use Rattle.bluesky.proofs.frames.handle_frames.Goals as goal
 
 pub loop-init : goal.loop-init
 loop-init g c = record {
-  going = λ told found stands. going_at_first g.P.Storage told found c.args.world c.args.site.now (g.S.Source.left c.args.source.now) (g.K.Sink.written c.args.sink.now) stands;
+  going = λ told found stands. going_at_first g.P.Storage c.args.world.settings told found c.args.world c.args.site.now (g.S.Source.left c.args.source.now) (g.K.Sink.written c.args.sink.now) stands;
   bounded = omega arith;
   ready = c.requires.going;
   serving = c.requires.serving;
@@ -32,7 +32,7 @@ loop-preserved g c =
     let n = c.next_frame.new in
     record {
       going = λ told found stands.
-          going_on g.P.Storage told found c.loop.world c.args.site.now c.loop.site _ _ _ _ c.loop.place c.loop.counter (c.loop.invariant.going told found stands) n.world n.site _ _ c.in-Ok.length ok.0 ok.1 ok.2 ok.3 ok.4;
+          going_on g.P.Storage c.args.world.settings told found c.loop.world c.args.site.now c.loop.site _ _ _ _ c.loop.place c.loop.counter (c.loop.invariant.going told found stands) n.world n.site _ _ c.in-Ok.length ok.0 ok.1 ok.2 ok.3 ok.4 ok.5;
       bounded = omega (arith, (in_frame_bound ok.0 ok.1).1, c.loop.invariant.bounded, ok.2);
       ready = c.in-Ok.ensures.going;
       serving = c.in-Ok.ensures.serving;
@@ -50,10 +50,10 @@ returns-in-Err-clause-ran g c =
     let left = g.S.Source.left in
     let written = g.K.Sink.written in
     let faults = g.K.Sink.faults in
-    ran_stopped g.P.Storage told found c.loop.world s c.args.site.now c.loop.site n.site had (left c.args.source.now) (left c.loop.source) (left n.source)
+    ran_stopped g.P.Storage c.args.world.settings told found c.loop.world s c.args.site.now c.loop.site n.site had (left c.args.source.now) (left c.loop.source) (left n.source)
     before (written c.args.sink.now) (written c.loop.sink) (written n.sink) (written c.finish.new.sink)
     c.loop.place c.loop.counter (faults c.args.sink.now) (faults n.sink) (faults c.finish.new.sink) opened begun given (c.loop.invariant.going told found stands) c.loop-test.true c.loop.invariant.disk_still c.loop.invariant.cloud_still
-    c.in-Err.stop c.finish.result (let going = c.loop.invariant.going told found stands in c.in-Err.ensures.refused going.state going.stands)
+    c.in-Err.stop c.finish.result (let going = c.loop.invariant.going told found stands in c.in-Err.ensures.refused going.course.last going.stands)
     (λ other. c.next_frame.ensures.sink_cause.quiet (other_err _ _ _ c.in-Err.is other) ∙ c.loop.invariant.sink_still) c.in-Err.ensures.stopped c.finish.ensures.finishes
 
 pub returns-in-Err-clause-replayed : goal.returns-in-Err-clause-replayed
@@ -67,7 +67,7 @@ returns-in-Err-clause-refused g c =
     let n = c.next_frame.new.sink in
     let going = c.loop.invariant.going told found stands in
     stopped_sound c.in-Err.stop c.loop.place c.finish.result
-    (record { before = written n; after = written c.finish.new.sink; faults_before = faults n; faults_after = faults c.finish.new.sink }) going.state (c.in-Err.ensures.refused going.state going.stands) (going.told_now ∙ is) c.finish.ensures.finishes damage
+    (record { before = written n; after = written c.finish.new.sink; faults_before = faults n; faults_after = faults c.finish.new.sink }) going.course.last (c.in-Err.ensures.refused going.course.last going.stands) (going.told_now ∙ is) c.finish.ensures.finishes damage
 
 pub returns-in-Err-clause-source_cause : goal.returns-in-Err-clause-source_cause
 returns-in-Err-clause-source_cause g c =
@@ -98,8 +98,8 @@ returns-clause-ran g c =
     let written = g.K.Sink.written in
     let faults = g.K.Sink.faults in
     let all : c.loop.counter ≡ frame_limit = omega arith in
-    ran_as g.P.Storage s c.loop.site c.end_with.result status.Long _ _ c.end_with.ensures.status
-    (ran_long g.P.Storage told found c.loop.world s c.args.site.now c.loop.site had (left c.args.source.now) (left c.loop.source) before (written c.args.sink.now) (written c.loop.sink) (written c.end_with.new.sink)
+    ran_as g.P.Storage c.args.world.settings s c.loop.site c.end_with.result status.Long _ _ c.end_with.ensures.status
+    (ran_long g.P.Storage c.args.world.settings told found c.loop.world s c.args.site.now c.loop.site had (left c.args.source.now) (left c.loop.source) before (written c.args.sink.now) (written c.loop.sink) (written c.end_with.new.sink)
     c.loop.place c.loop.counter (faults c.args.sink.now) (faults c.loop.sink) (faults c.end_with.new.sink) opened begun given (c.loop.invariant.going told found stands) c.loop.invariant.disk_still c.loop.invariant.cloud_still all c.loop.invariant.sink_still c.end_with.ensures.gave)
 
 pub returns-clause-refused : goal.returns-clause-refused

@@ -10,7 +10,7 @@ use Rattle.bluesky.proofs.frames.handle_frames.Given as goal
 abbrev pub invariant-loop : goal.invariant-loop
 invariant-loop g l = record {
   going : (told : Bool) (found : Found) → Stands g.P.Storage l.fn.world l.fn.site (start told found)
-      → Going g.P.Storage told found l.world l.fn.site l.site (g.S.Source.left l.fn.source) (g.S.Source.left l.source) (g.K.Sink.written l.fn.sink) (g.K.Sink.written l.sink) l.place l.counter;
+      → Going g.P.Storage l.fn.world.settings told found l.world l.fn.site l.site (g.S.Source.left l.fn.source) (g.S.Source.left l.source) (g.K.Sink.written l.fn.sink) (g.K.Sink.written l.sink) l.place l.counter;
   bounded : l.place ≤ 8 + l.counter * 1048585;
   ready : l.world.ended ≡ false;
   serving : IsServing g.P.Storage l.world.service l.site;

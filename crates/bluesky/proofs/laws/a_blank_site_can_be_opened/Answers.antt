@@ -4,7 +4,7 @@ use Rattle.sky_base.specs.Order.{name_order}
 use Rattle.sky_base.specs.declared.object.SegName.{SegName}
 use Rattle.sky_outside.specs.CloudMap.{CloudMap, held_of}
 use Rattle.sky_sound.specs.Cloud.{checkpoint_in, last_checkpoint}
-use Rattle.bluesky.specs.Run.{area_size, volume}
+use Rattle.sky_settings.specs.Settings.{default_fields}
 use Rattle.bluesky.proofs.laws.a_blank_site_can_be_opened.Goals as goal
 
 -- a cloud with no objects has no checkpoint
@@ -16,4 +16,4 @@ no_checkpoint : checkpoint_in empty ≡ None
 no_checkpoint = let nothing : CloudMap = empty in none_listed (entries nothing) (sym (len-entries nothing) ∙ len-empty name_order (List ℕ))
 
 pub returns : goal.returns
-returns c = λ bytes fits. c.a_blank_site_is_sound.ensures.sound volume area_size bytes empty (omega arith) fits no_checkpoint
+returns c = λ bytes fits. c.a_blank_site_is_sound.ensures.sound default_fields.volume default_fields.journal_area bytes empty (omega arith) fits no_checkpoint

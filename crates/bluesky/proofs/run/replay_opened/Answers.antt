@@ -1,6 +1,6 @@
 use Rattle.std.proofs.Common.{◌∙◌, [], refl}
 use Rattle.bluesky.specs.Run.{SinkUse, session_bytes}
-use Rattle.bluesky.specs.Stop.{status_of}
+use Rattle.bluesky.specs.Stop.{magic_status_of}
 use Rattle.bluesky.proofs.Beginning.{gave_as, ran_otherwise}
 use Rattle.bluesky.proofs.Stopping.{ending_then}
 use Rattle.bluesky.proofs.run.replay_opened.Goals as goal
@@ -14,8 +14,7 @@ returns-clause-ran g c =
     let ended = c.end_with in
     let behind : SinkUse = record { before = written sink; after = written ended.new.sink; faults_before = faults sink; faults_after = faults ended.new.sink } in
     let why = c.in-Err.fault in
-    ran_otherwise g.P.Storage first c.args.site.now found opened.found_on opened.leaves why ended.result (g.S.Source.left c.args.source.now) (g.S.Source.left c.read_magic.new.source) before (written ended.new.sink)
+    ran_otherwise g.P.Storage c.args.world.settings first c.args.site.now found c.args.world opened stands why ended.result (g.S.Source.left c.args.source.now) (g.S.Source.left c.read_magic.new.source) before (written ended.new.sink)
     (faults sink) (faults ended.new.sink) (ended.ensures.status ∙ c.magic_status.ensures) c.in-Err.ensures.none
-    (ending_then before (written sink) (written ended.new.sink) (faults sink) (faults sink) (faults ended.new.sink) (session_bytes found []) (status_of why) refl given
-    (gave_as behind [] c.magic_status.result (status_of why) c.magic_status.ensures ended.ensures.gave))
-    (record { world = c.args.world; site = c.args.site.now; stands = stands; disk = opened.disk; cloud = opened.cloud })
+    (ending_then before (written sink) (written ended.new.sink) (faults sink) (faults sink) (faults ended.new.sink) (session_bytes found []) (magic_status_of why) refl given
+    (gave_as behind [] c.magic_status.result (magic_status_of why) c.magic_status.ensures ended.ensures.gave))
