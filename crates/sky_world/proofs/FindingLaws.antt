@@ -1,7 +1,7 @@
 -- Laws of what recovery finds of a disk that has the first changes of a history, beside a cloud that ends where the history begins.
 use Rattle.std.specs.Prelude.{max, is_some, IsTrue, ◌&&◌}
 use Rattle.std.specs.List.{AllByRecursion}
-use Rattle.std.proofs.Common.{◌≡◌, ℕ, ◌+◌, ◌-◌, ◌≤◌, zero, suc, Bool, true, false, Option, Some, Ok, List, [], ◌∷◌, map, take, length, inl, inr, ⊎_elim, refl, sym, ap, subst, ◌∙◌, arith}
+use Rattle.std.proofs.Common.{◌≡◌, ℕ, ◌+◌, ◌-◌, ◌≤◌, zero, suc, Bool, true, false, Option, Some, None, Ok, List, [], ◌∷◌, map, take, length, inl, inr, ⊎_elim, refl, sym, ap, subst, ◌∙◌, arith}
 use Rattle.std.proofs.lemmas.List.{append-nil, length-take}
 use Rattle.sky_entry.specs.Entry.{entry_bytes}
 use Rattle.sky_journal.specs.Journal.{IsJournal, Reads, entries}
@@ -17,7 +17,7 @@ use Rattle.sky_outside.specs.declared.storage.Storage.{Ghosts}
 use Rattle.sky_outside.proofs.MomentLaws.{only_read}
 use Rattle.sky_outside.proofs.ToldLaws.{WhereTold-at, WhereTold-from}
 use Rattle.sky_recover.specs.Opening.{WhereBothTold}
-use Rattle.sky_sound.specs.Cloud.{HasNoCheckpoint, cloud_tree, covers_of}
+use Rattle.sky_sound.specs.Cloud.{checkpoint_in, cloud_tree, covers_of}
 use Rattle.sky_sound.specs.Entries.{change_of, changes_in, entries_above, is_of_change, journal_of, with_change}
 use Rattle.sky_sound.specs.Recovery.{FindsSame, IsSound, Recovered, history_from, history_of}
 use Rattle.sky_sound.proofs.Above.{above_yes, history_is, history_recovered}
@@ -81,7 +81,7 @@ legal_cut n history legal = record { valid = legal.valid; done = done_take (n - 
 
 -- The objects of a cloud that ends where the history begins, and has no checkpoint of the proxy.
 pub record Begins (kept : Kept) (objects : CloudMap) : Type 0 where
-  pub no_checkpoint : HasNoCheckpoint objects
+  pub no_checkpoint : checkpoint_in objects ≡ None
   pub covers : kept.history.before ≡ covers_of objects
   pub tree : kept.history.tree ≡ cloud_tree kept.journal.volume objects
 

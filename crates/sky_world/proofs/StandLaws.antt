@@ -1,5 +1,5 @@
 -- Laws of the states that the world stands for.
-use Rattle.std.proofs.Common.{◌≡◌, ℕ, ◌<◌, Bool, Option, List, [], ◌∷◌, ◌++◌, get_or, set, take, ⊎_elim, refl, sym, ap, subst, ◌∙◌, arith}
+use Rattle.std.proofs.Common.{◌≡◌, ℕ, ◌<◌, Bool, false, Option, List, [], ◌∷◌, ◌++◌, get_or, set, take, ⊎_elim, refl, sym, ap, subst, ◌∙◌, arith}
 use Rattle.std.specs.Prelude.{IsSome}
 use Rattle.std.proofs.lemmas.Bool.{cases_eq}
 use Rattle.std.proofs.lemmas.List.{length-set, set-get_or, get_or-set_same, get_or-set_other}
@@ -18,7 +18,7 @@ use Rattle.sky_script.specs.Frame.{InFrame, Begin, Bytes, Close, SetMoment, Stat
 use Rattle.sky_script.specs.declared.frame.Stats.{Stats}
 use Rattle.sky_sound.specs.Boot.{claimed}
 use Rattle.sky_sound.specs.Cloud.{cloud_tree}
-use Rattle.sky_world.specs.Disk.{LeavesPrefix}
+use Rattle.sky_world.specs.Disk.{IsKeptOn, LeavesPrefix}
 use Rattle.sky_world.specs.Finding.{LeavesFinding}
 use Rattle.sky_world.specs.Sessions.{closed}
 use Rattle.sky_world.specs.declared.sessions.Session.{Session}
@@ -50,6 +50,8 @@ recoverable_but g d s moment sessions r = record {
       (λ objects held.
       let b = WhereTold-at (g.objects d) (IsBeside s) objects held r.cloud in
       record { no_checkpoint = b.no_checkpoint; covers = b.covers; tree = b.tree; epoch = b.epoch });
+  uncovered = r.uncovered;
+  begun = r.begun;
 }
 
 begins_on : (kept later : Kept) (objects : CloudMap) → SameBeginning kept later → Begins kept objects → Begins later objects
@@ -68,8 +70,8 @@ module _ {S : Type 0} (g : Ghosts S) (d e : S) (s t : State) (f : InFrame) (outs
       (WhereTold-from (g.objects d) (Begins t.kept)
       (λ objects held. begins_on s.kept t.kept objects (step_begins_same Scarce s t f outs stays step) (begins_at s objects (WhereTold-at (g.objects d) (IsBeside s) objects held is.cloud)))) leaves
 
-  step_recoverable : SameCloud g d e → BothTold (λ old new. Unit {0}) (g.image d) (g.image e) → IsRecoverable g t e
-  step_recoverable cloud both = recoverable_step g d e s t f outs step stays cloud both is
+  step_recoverable : IsKeptOn g s.kept d → SameCloud g d e → BothTold (λ old new. Unit {0}) (g.image d) (g.image e) → IsRecoverable g t e
+  step_recoverable on cloud both = recoverable_step g d e s t f outs step stays (record { least = on.least; most = on.most }) on.pending cloud both is
 
 -- a session, and the one that it stands for, put in the places of others
 pub stands_with : {S : Type 0} (g : Ghosts S) (d : S) (w : WorldView) (s : State) (number : ℕ) (slot : Session) (session : meaning.Session) → number < session_count → Stands g w d s → StandsFor slot session
@@ -133,7 +135,7 @@ module _ {S : Type 0} (g : Ghosts S) (w : WorldView) (d e : S) (number : ℕ) (p
       let new : State = with_session (with_kept s h.1) number h.0 in
       let step : Step Scarce s (Bytes number payload) h.2 new = subst (λ (x : meaning.Session). StepBytes Scarce x number payload s h.2 new) (sym at.1) h.5 in
       let same = step_begins_same Scarce s new (Bytes number payload) h.2 (λ r. r) step in
-      let ready : IsRecoverable g new e = step_recoverable g d e s new (Bytes number payload) h.2 step (λ r. r) stands.recoverable h.7.beside h.7.tells in
+      let ready : IsRecoverable g new e = step_recoverable g d e s new (Bytes number payload) h.2 step (λ r. r) stands.recoverable stands.service.kept h.7.beside h.7.tells in
       let there : Stands g (record w { service = later }) e (with_kept s h.1) =
       record {
         volume = stands.volume ∙ sym same.volume;
@@ -261,13 +263,13 @@ stepped_ended g w v d e f sink over stepped = λ s stands.
 
 -- ---- restarts
 
-module _ {S : Type 0} (g : Ghosts S) (old : WorldView) (s t : S) (found : Found) (opens : IsOpenOn g t found) (sink : SinkGot) where
+module _ {S : Type 0} (g : Ghosts S) (old : WorldView) (s t : S) (found : Found) (opens : IsOpenOn g t found) (bytes : g.bytes_of t ≡ g.bytes_of s) (up : old.service.journal.down ≡ false) (sink : SinkGot) where
   -- the site was opened again
   module _ (is : IsFoundOn g old.settings.volume old.settings.journal_area s found) (claims : BothTold (λ old new. new ≡ claimed old) (g.objects s) (g.objects t)) (images : BothTold (λ old new. Unit {0}) (g.image s) (g.image t))
       (leaves : LeavesFound g old.settings.volume old.settings.journal_area s t) where
     pub stepped_restart : Given sink.before sink.after (out_frame (opening found)) → Stepped g old s Restart (reopened_world old found) t sink
     stepped_restart given = λ state stands.
-        let r = restarted g old s t state stands found is opens claims images in (
+        let r = restarted g old s t state stands found is opens claims images bytes up in (
           opening found ∷ [],
           r.0,
           r.1,
@@ -279,7 +281,7 @@ module _ {S : Type 0} (g : Ghosts S) (old : WorldView) (s t : S) (found : Found)
 
     pub stepped_restart_part : GivenPart sink.before sink.after (out_frame (opening found)) → SteppedPart g old s Restart t sink
     stepped_restart_part given = λ state stands.
-        let r = restarted g old s t state stands found is opens claims images in
+        let r = restarted g old s t state stands found is opens claims images bytes up in
         (opening found ∷ [], r.0, r.1, given_part_one sink.before sink.after (opening found) given, restart_leaves g old s t state stands leaves)
 
   -- and before that the journal was given up
@@ -287,7 +289,7 @@ module _ {S : Type 0} (g : Ghosts S) (old : WorldView) (s t : S) (found : Found)
       (claims : BothTold (λ old new. new ≡ claimed old) (g.objects m) (g.objects t)) (images : BothTold (λ old new. Unit {0}) (g.image m) (g.image t)) (leaves : LeavesFound g old.settings.volume old.settings.journal_area m t) where
     pub stepped_bare : Given sink.before sink.after (out_frame (opening found)) → Stepped g old s RestartWithoutJournal (reopened_world old found) t sink
     stepped_bare given = λ state stands.
-        let r = restarted_bare g old s m state stands wipes holds beside t found is opens claims images in (
+        let r = restarted_bare g old s m state stands wipes holds beside t found is opens claims images bytes up in (
           opening found ∷ [],
           r.0,
           r.1,
@@ -299,5 +301,5 @@ module _ {S : Type 0} (g : Ghosts S) (old : WorldView) (s t : S) (found : Found)
 
     pub stepped_bare_part : GivenPart sink.before sink.after (out_frame (opening found)) → SteppedPart g old s RestartWithoutJournal t sink
     stepped_bare_part given = λ state stands.
-        let r = restarted_bare g old s m state stands wipes holds beside t found is opens claims images in
+        let r = restarted_bare g old s m state stands wipes holds beside t found is opens claims images bytes up in
         (opening found ∷ [], r.0, r.1, given_part_one sink.before sink.after (opening found) given, bare_leaves g old s m state stands wipes holds beside t leaves)
