@@ -1,5 +1,4 @@
 pub mod AreasRead
-pub mod EntryPlaces
 pub mod Faults
 pub mod Journal
 pub mod Laid

@@ -2,4 +2,3 @@ pub mod Boot
 pub mod Cloud
 pub mod Entries
 pub mod Recovery
-pub mod Settled
