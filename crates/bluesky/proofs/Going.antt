@@ -16,13 +16,12 @@ use Rattle.sky_recover.specs.Opening.{Found, WhereBothTold}
 use Rattle.sky_script.specs.Frame.{InFrame, OutFrame, IsInFrame, in_frame, in_frames, out_frame, out_frames, magic}
 use Rattle.sky_sound.specs.Boot.{Claims, claimed, claimed_times}
 use Rattle.sky_sound.specs.Recovery.{FindsSame}
-use Rattle.sky_world.specs.Finding.{LeftWithin}
 use Rattle.sky_world.specs.Meaning.{State, Scarce, start, opening, Step, Steps}
 use Rattle.sky_settings.specs.declared.settings.Fields.{Fields}
 use Rattle.sky_world.specs.World.{WorldView, Stands, Stepped, restarts_by, tells}
 use Rattle.sky_world.proofs.FindingLaws.{both_told_at, both_told_from}
 use Rattle.sky_world.proofs.SiteLaws.{step_tells}
-use Rattle.bluesky.specs.Run.{Course, IsCourse, LeftBetween, further, no_course, recording, restarts_in, session_bytes}
+use Rattle.bluesky.specs.Run.{Course, IsCourse, LeftBetween, LeftWithin, further, no_course, recording, restarts_in, session_bytes}
 use Rattle.bluesky.specs.Stop.{Opened}
 use Rattle.bluesky.proofs.Sites.{told_both, tells_both, opened_leaves}
 
@@ -120,7 +119,7 @@ between_more course f outs new image objects step b = record {
 
 -- and so is the last
 between_last : (course : Course) (f : InFrame) (outs : List OutFrame) (new : State) (image : List ℕ) (objects : CloudMap) → IsCourse Scarce course → Step Scarce course.last f outs new
-    → LeftWithin course.last f outs image objects → LeftBetween (further course f outs new) image objects
+    → LeftWithin course.last f new image objects → LeftBetween (further course f outs new) image objects
 between_last course f outs new image objects is step left = record {
   before = course.frames;
   f = f;
@@ -166,7 +165,7 @@ going_at_first g settings told found world s left given stands =
       begins = refl;
       stands = stands;
       handled = nothing_handled (start told found);
-      told_then = stands.told;
+      told_then = stands.recoverable.told;
       told_now = refl;
       leaves = λ s' opened. opened_leaves g settings s' s found (λ read held. LeftSoFar settings read held course) opened (λ read held image objects p. inl p);
       claims = claims_none (g.objects s);
@@ -180,7 +179,7 @@ module _ {S : Type 0} (g : Ghosts S) (settings : Fields) (told : Bool) (found : 
   -- what the site told before the opening it tells now
   pub tells_now : (s : S) → Opened g settings s s0 found → (read : List ℕ) (held : CloudMap) → g.image s ≡ Some read → g.objects s ≡ Some held → tells g s1 ≡ true
   tells_now s opened read held is held_is =
-      sym going.stands.told ∙ going.told_now ∙ going.told_then ∙ opened.tells ∙ tells_both g s read held is held_is
+      sym going.stands.recoverable.told ∙ going.told_now ∙ going.told_then ∙ opened.tells ∙ tells_both g s read held is held_is
 
   -- of what a crash leaves from now on, where it told before the opening
   pub at_now : (s : S) → Opened g settings s s0 found → (read : List ℕ) (held : CloudMap) → g.image s ≡ Some read → g.objects s ≡ Some held → (P : Type 0) → WhereBothTold g s1 (λ image objects. P) → P
@@ -190,12 +189,12 @@ module _ {S : Type 0} (g : Ghosts S) (settings : Fields) (told : Bool) (found : 
 
   -- over one frame more
   leaves_on : (s2 : S) (f : InFrame) (outs : List OutFrame) (next : State) → Step Scarce going.course.last f outs next
-      → WhereBothTold g s1 (λ image objects. LeavesOnly g s1 s2 (LeftWithin going.course.last f outs))
+      → WhereBothTold g s1 (λ image objects. LeavesOnly g s1 s2 (LeftWithin going.course.last f next))
       → (s : S) → Opened g settings s s0 found → LeavesSoFar g settings s s2 (further going.course f outs next)
   leaves_on s2 f outs next step leaves s opened =
       let course : Course = going.course in
       let more : Course = further course f outs next in
-      let within : OfPair = LeftWithin course.last f outs in
+      let within : OfPair = LeftWithin course.last f next in
       both_told_from g s (λ read held. LeavesOnly g s s2 (LeftSoFar settings read held more))
       (λ read held is held_is.
       let so_far = both_told_at g s (λ r h. LeavesOnly g s s1 (LeftSoFar settings r h course)) read held is held_is (going.leaves s opened) in

@@ -10,7 +10,7 @@ use Rattle.sky_outside.specs.Image.{bytes_at}
 use Rattle.sky_journal.specs.Layout.{is_open, number_8, volume_place, area_header, batch_header, count_at, body_at, next_batch}
 use Rattle.sky_journal.specs.Text.{all_of_grammar, Area, batch_at, batches_from, base_of, numbered, area_entries, second_is_older, in_order, open_areas, first_area, second_area, areas_entries, entries_of}
 use Rattle.sky_journal.specs.Laid.{joined, IsBatch, HasBatches, IsArea, IsLaid, BeginsAt, IsFree}
-use Rattle.sky_journal.specs.Journal.{JournalView, IsOpenArea, GoesOn, AreInOrder, IsJournal, StandsFor, numbered_in, base_in, ReadsAs, ReadsEntries, entries, first_base, area_with, after_commit, after_rotation}
+use Rattle.sky_journal.specs.Journal.{JournalView, IsOpenArea, GoesOn, AreInOrder, IsJournal, StandsFor, numbered_in, base_in, ReadsAs, Reads, entries, first_base, area_with, after_commit, after_rotation}
 use Rattle.sky_journal.specs.declared.open_area.OpenArea.{OpenArea}
 use Rattle.sky_journal.proofs.Entries.{entries_in-length}
 use Rattle.sky_journal.proofs.Halves.{IsHalf}
@@ -109,29 +109,29 @@ nothing (e ∷ es) none = absurd (omega arith)
 
 -- ---- which areas are read
 
-pub open_first : (a b : Area) → is_open 0 a.bytes ≡ true → is_open 0 b.bytes ≡ false → open_areas a b ≡ a ∷ []
+open_first : (a b : Area) → is_open 0 a.bytes ≡ true → is_open 0 b.bytes ≡ false → open_areas a b ≡ a ∷ []
 unfolding open_areas
 open_first a b opened closed = rw (opened, closed) refl
 
-pub open_second : (a b : Area) → is_open 0 a.bytes ≡ false → is_open 0 b.bytes ≡ true → open_areas a b ≡ b ∷ []
+open_second : (a b : Area) → is_open 0 a.bytes ≡ false → is_open 0 b.bytes ≡ true → open_areas a b ≡ b ∷ []
 unfolding open_areas
 open_second a b closed opened = rw (closed, opened) refl
 
-pub open_none : (a b : Area) → is_open 0 a.bytes ≡ false → is_open 0 b.bytes ≡ false → open_areas a b ≡ []
+open_none : (a b : Area) → is_open 0 a.bytes ≡ false → is_open 0 b.bytes ≡ false → open_areas a b ≡ []
 unfolding open_areas
 open_none a b first second = rw (first, second) refl
 
-pub open_both : (a b : Area) → is_open 0 a.bytes ≡ true → is_open 0 b.bytes ≡ true → open_areas a b ≡ in_order a b
+open_both : (a b : Area) → is_open 0 a.bytes ≡ true → is_open 0 b.bytes ≡ true → open_areas a b ≡ in_order a b
 unfolding open_areas
 open_both a b first second = rw (first, second) refl
 
 -- an open area of the disk: it has these entries, and its numbers are below the limit
-pub record IsOpen (volume : ℕ) (area : Area) (a : OpenArea) (es : List (List ℕ)) : Type 0 where
-  pub is : IsArea volume area.bytes a es
-  pub few : a.last < max_number
+record IsOpen (volume : ℕ) (area : Area) (a : OpenArea) (es : List (List ℕ)) : Type 0 where
+  is : IsArea volume area.bytes a es
+  few : a.last < max_number
 
 -- the first of two is the older, where the second goes on from it
-pub first_is_older : (volume : ℕ) (a b : Area) (x y : OpenArea) (es fs : List (List ℕ)) → IsOpen volume a x es → IsOpen volume b y fs → y.base ≡ x.last → second_is_older a b ≡ false
+first_is_older : (volume : ℕ) (a b : Area) (x y : OpenArea) (es fs : List (List ℕ)) → IsOpen volume a x es → IsOpen volume b y fs → y.base ≡ x.last → second_is_older a b ≡ false
 first_is_older volume a b x y es fs first second goes_on =
     let low_a : base_of a ≡ x.base = first.is.base in
     let low_b : base_of b ≡ y.base = second.is.base in
@@ -142,12 +142,12 @@ first_is_older volume a b x y es fs first second goes_on =
     (cases_eq (base_of a) (base_of b))
 
 -- The second of two is the older, where the first goes on from it; or neither has entries.
-pub record HaveNone (a b : Area) (es fs : List (List ℕ)) : Type 0 where
-  pub first_read : second_is_older a b ≡ false
-  pub first_none : es ≡ []
-  pub second_none : fs ≡ []
+record HaveNone (a b : Area) (es fs : List (List ℕ)) : Type 0 where
+  first_read : second_is_older a b ≡ false
+  first_none : es ≡ []
+  second_none : fs ≡ []
 
-pub second_is_older_if : (volume : ℕ) (a b : Area) (x y : OpenArea) (es fs : List (List ℕ)) → IsOpen volume a x es → IsOpen volume b y fs → x.base ≡ y.last
+second_is_older_if : (volume : ℕ) (a b : Area) (x y : OpenArea) (es fs : List (List ℕ)) → IsOpen volume a x es → IsOpen volume b y fs → x.base ≡ y.last
     → (second_is_older a b ≡ true) ⊎ HaveNone a b es fs
 second_is_older_if volume a b x y es fs first second goes_on =
     let low_a : base_of a ≡ x.base = first.is.base in
@@ -214,11 +214,11 @@ both_right is_entry [] fs all = all
 both_right is_entry (e ∷ es) fs all = both_right is_entry es fs all.1
 
 -- an area that is known is one of the disk's two
-pub in_first : (volume size : ℕ) (image : List ℕ) (a : OpenArea) (es : List (List ℕ)) → IsArea volume (bytes_at image a.start size) a es → IsOpenArea size a → a.start ≡ 0
+in_first : (volume size : ℕ) (image : List ℕ) (a : OpenArea) (es : List (List ℕ)) → IsArea volume (bytes_at image a.start size) a es → IsOpenArea size a → a.start ≡ 0
     → IsOpen volume (first_area size image) a es
 in_first volume size image a es is opens at = record { is = subst (λ (s : ℕ). IsArea volume (take size (drop s image)) a es) at is; few = opens.number }
 
-pub in_second : (volume size : ℕ) (image : List ℕ) (a : OpenArea) (es : List (List ℕ)) → IsArea volume (bytes_at image a.start size) a es → IsOpenArea size a → a.start ≡ size
+in_second : (volume size : ℕ) (image : List ℕ) (a : OpenArea) (es : List (List ℕ)) → IsArea volume (bytes_at image a.start size) a es → IsOpenArea size a → a.start ≡ size
     → IsOpen volume (second_area size image) a es
 in_second volume size image a es is opens at = record { is = subst (λ (s : ℕ). IsArea volume (take size (drop s image)) a es) at is; few = opens.number }
 
@@ -309,7 +309,7 @@ of_areas is_entry volume size covers image fits =
     rw large refl
 
 -- An image reads as the entries for which a journal stands over it.
-pub reads : (j : JournalView) (image : List ℕ) (older newer : List (List ℕ)) → IsJournal j → StandsFor j image older newer → ReadsEntries j older newer image
+pub reads : (j : JournalView) (image : List ℕ) (older newer : List (List ℕ)) → IsJournal j → StandsFor j image older newer → Reads j older newer image
 reads j image older newer is stands = λ is_entry covers all le.
     of_areas is_entry j.volume j.size covers image (omega (arith, is.fits, stands.size))
     ∙ disk_reads is_entry j.volume j.size covers image j.older j.newer older newer (omega (arith, is.least)) is.older is.newer is.in_order stands.older_is stands.newer_is stands.others all le
@@ -328,8 +328,8 @@ committed_same j (Some b) None older es = (refl, refl)
 committed_same j (Some b) (Some a) older es = (refl, refl)
 
 -- what reads as the journal's entries after a commit reads so as the journal's before it
-pub ReadsEntries-after_commit : (j : JournalView) (image : List ℕ) (older es : List (List ℕ)) → ReadsEntries (after_commit j) older es image → ReadsEntries j older es image
-ReadsEntries-after_commit j image older es read =
+pub Reads-after_commit : (j : JournalView) (image : List ℕ) (older es : List (List ℕ)) → Reads (after_commit j) older es image → Reads j older es image
+Reads-after_commit j image older es read =
     let same = committed_same j j.older j.newer older es in
     subst (λ (base : ℕ). ReadsAs j.volume j.size base (entries j older es) image) same.0
     (subst (λ (list : List (ℕ × List ℕ)). ReadsAs j.volume j.size (first_base (after_commit j)) list image) same.1 read)
@@ -340,7 +340,7 @@ unfolding numbered
 rotated_same o older newer n base e = append-nil (numbered_in n newer) ∙ ap (λ (o : Option OpenArea). numbered_in o older ++ numbered_in n newer) (sym e)
 
 -- what reads as its entries after a rotation reads so as those before it, behind the first base after it
-pub ReadsEntries-after_rotation : (j : JournalView) (base : ℕ) (image : List ℕ) (older newer : List (List ℕ)) → j.older ≡ None → ReadsEntries (after_rotation j base) newer [] image
+pub Reads-after_rotation : (j : JournalView) (base : ℕ) (image : List ℕ) (older newer : List (List ℕ)) → j.older ≡ None → Reads (after_rotation j base) newer [] image
     → ReadsAs j.volume j.size (first_base (after_rotation j base)) (entries j older newer) image
-ReadsEntries-after_rotation j base image older newer e read =
+Reads-after_rotation j base image older newer e read =
     subst (λ (list : List (ℕ × List ℕ)). ReadsAs j.volume j.size (first_base (after_rotation j base)) list image) (rotated_same j.older older newer j.newer base e) read

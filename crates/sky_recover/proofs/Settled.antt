@@ -1,5 +1,5 @@
 -- Closing areas that have no entry above covers, and opening one behind covers.
-use Rattle.std.specs.Prelude.{IfSome}
+use Rattle.std.specs.Prelude.{IfSome, IsSome}
 use Rattle.std.proofs.Common.{◌≡◌, ◌⊎◌, ⊎_elim, inr, ℕ, ◌<◌, ◌≤◌, false, List, [], ◌++◌, Option, Some, None, Ok, refl, sym, ap, ◌∙◌, subst, arith}
 use Rattle.sky_base.specs.Limits.{max_number}
 use Rattle.sky_outside.specs.Moments.{LeavesOnly, BesideObjects, NothingPending, SameCloud}
@@ -7,7 +7,7 @@ use Rattle.sky_outside.specs.Told.{WhereTold, BothTold}
 use Rattle.sky_outside.specs.declared.storage.Storage.{Ghosts}
 use Rattle.sky_outside.proofs.MomentLaws.{LeavesOnly-disk_start, LeavesOnly-disk_then, only_read}
 use Rattle.sky_outside.proofs.ToldLaws.{WhereTold-at, WhereTold-from}
-use Rattle.sky_journal.specs.Journal.{JournalView, IsJournal, StandsFor, ReadsAs, ReadsEntries, SameButSpare, after_rotation, base_in, entries, first_base, new_area, number_behind, numbered_in, without_newer, without_older, wiped}
+use Rattle.sky_journal.specs.Journal.{JournalView, IsJournal, StandsFor, ReadsAs, Reads, SameButSpare, after_rotation, base_in, entries, first_base, new_area, number_behind, numbered_in, without_newer, without_older, wiped}
 use Rattle.sky_journal.specs.Text.{numbered}
 use Rattle.sky_journal.specs.declared.open_area.OpenArea.{OpenArea}
 use Rattle.sky_journal.proofs.Disks.{both_at, both_same, leaves_weaker}
@@ -16,9 +16,7 @@ use Rattle.sky_journal.proofs.Reading.{reads}
 use Rattle.sky_journal.proofs.Wiped.{LeavesWiped}
 use Rattle.sky_sound.specs.Entries.{AreOfChanges, journal_of, entries_above}
 use Rattle.sky_sound.proofs.Above.{above_append}
-use Rattle.sky_sound.specs.Settled.{settled}
-use Rattle.sky_sound.proofs.Settled.{settled_begins, settled_from, settled_goes_on, unless_goes, unless_stays}
-use Rattle.sky_recover.specs.Settling.{IsRead, KeepsAbove, LeavesAbove, StaysAbove}
+use Rattle.sky_recover.specs.Settling.{IsRead, IsSettled, KeepsAbove, LeavesAbove, StaysAbove}
 use Rattle.sky_recover.proofs.Covered.{of_changes_first, of_changes_second, area_covered, older_low, base_low, first_low, newer_base, read_of_changes, based, list_is, keeps_of, read_from}
 
 some_same : {A : Type 0} (a b : A) → Some a ≡ Some b → a ≡ b
@@ -46,6 +44,11 @@ both_chain P Q R None (Some y) c p q leads = absurd p
 both_chain P Q R (Some x) None c p q leads = absurd p
 both_chain P Q R (Some x) (Some y) None p q leads = absurd q
 both_chain P Q R (Some x) (Some y) (Some z) p q leads = leads x y z refl p q
+
+-- an area is open where there is an entry
+some_area : (covers : ℕ) (o : Option OpenArea) → covers < number_behind o 0 → IsSome o
+some_area covers None lt = absurd (omega (arith, lt))
+some_area covers (Some a) lt = refl
 
 -- ---- closing both areas
 
@@ -85,12 +88,12 @@ module _ (j : JournalView) (covers : ℕ) (image : List ℕ) (is : IsJournal j) 
       let first : first_base j ≤ covers = omega (arith, first_low j.size j.older j.newer is.in_order is.older is.newer, low) in
       let second : first_base (without_newer j) ≤ covers = omega (arith, base_low j.size j.older is.older, older_low j.size j.older j.newer is.in_order is.newer, low) in
       let alone : AreOfChanges (entries (without_newer j) [] older) = of_changes_first (numbered_in j.older older) (numbered_in j.newer newer) all in
-      ⊎_elim (λ (r : ReadsEntries j older newer left). keeps_of j.volume j.size covers (first_base j) (entries j older newer) (entries j older newer) left r first all refl)
+      ⊎_elim (λ (r : Reads j older newer left). keeps_of j.volume j.size covers (first_base j) (entries j older newer) (entries j older newer) left r first all refl)
       (λ more.
       ⊎_elim
-      (λ (r : ReadsEntries (without_newer j) [] older left).
+      (λ (r : Reads (without_newer j) [] older left).
       keeps_of j.volume j.size covers (first_base (without_newer j)) (entries (without_newer j) [] older) (entries j older newer) left r second alone (older_none ∙ sym none_above))
-      (λ (r : ReadsEntries (wiped j) [] [] left). keeps_of j.volume j.size covers 0 [] (entries j older newer) left r (omega arith) tt (sym none_above)) more)
+      (λ (r : Reads (wiped j) [] [] left). keeps_of j.volume j.size covers 0 [] (entries j older newer) left r (omega arith) tt (sym none_above)) more)
       which
 
 module _ {S : Type 0} (g : Ghosts S) (j : JournalView) (covers : ℕ) (is : IsJournal j) (low : number_behind j.newer 0 ≤ covers) where
@@ -150,11 +153,19 @@ module _ {S : Type 0} (g : Ghosts S) (j : JournalView) (covers : ℕ) (is : IsJo
         subst IsJournal (sym m_is)
         (IsJournal-but (after_rotation (wiped j) covers) m.spare j.down (IsJournal-after_rotation (wiped j) covers (IsJournal-wiped j is) number tt refl))
 
-    pub settled_anew : j.down ≡ false → SameButSpare (settled covers j) m
-    settled_anew up =
-        let same = settled_begins covers j low in
-        settled_from covers j m (ap (λ (v : JournalView). v.volume) m_is) (ap (λ (v : JournalView). v.size) m_is) (ap (λ (v : JournalView). v.disk) m_is)
-        (ap (λ (v : JournalView). v.older) m_is ∙ sym same.0) (ap (λ (v : JournalView). v.newer) m_is ∙ sym same.1) (ap (λ (v : JournalView). v.pending) m_is) (ap (λ (v : JournalView). v.down) m_is ∙ up)
+    pub settled_anew : j.down ≡ false → IsSettled covers j m
+    settled_anew up = record {
+      volume = ap (λ (v : JournalView). v.volume) m_is;
+      size = ap (λ (v : JournalView). v.size) m_is;
+      disk = ap (λ (v : JournalView). v.disk) m_is;
+      pending = ap (λ (v : JournalView). v.pending) m_is;
+      down = ap (λ (v : JournalView). v.down) m_is ∙ up;
+      area = subst (λ (v : JournalView). IsSome v.newer) (sym m_is) refl;
+      last = ap (λ (v : JournalView). number_behind v.newer 0) m_is ∙ omega (arith, low);
+      begun = λ le. (ap (λ (v : JournalView). v.older) m_is, ap (λ (v : JournalView). v.newer) m_is);
+      uncovered = λ lt. absurd (omega (arith, lt, low));
+      kept = λ lt more. absurd (omega (arith, lt, low));
+    }
 
     -- it has no entry
     none_new : (first second : List (List ℕ)) → first ≡ [] → second ≡ [] → entries m first second ≡ []
@@ -209,7 +220,7 @@ low_from (Some a) covers le = omega (arith, le)
 -- what a crash may leave while it is closed, and for what the journal then stands
 abbrev pub ReleaseMoments : {S : Type 0} → Ghosts S → S → S → JournalView → Type 0
 ReleaseMoments g s t j = WhereTold (g.image s) (λ image. (older newer : List (List ℕ)) → StandsFor j image older newer
-    → LeavesOnly g s t (BesideObjects g s (λ left. ReadsEntries j older newer left ⊎ ReadsEntries (without_older j) [] newer left)))
+    → LeavesOnly g s t (BesideObjects g s (λ left. Reads j older newer left ⊎ Reads (without_older j) [] newer left)))
 
 abbrev pub Releases : {S : Type 0} → Ghosts S → S → S → JournalView → JournalView → Type 0
 Releases g s t j k = BothTold (λ old new. (older newer : List (List ℕ)) → StandsFor j old older newer → StandsFor k new [] newer) (g.image s) (g.image t)
@@ -235,14 +246,14 @@ module _ (j : JournalView) (covers : ℕ) (is : IsJournal j) (low : number_behin
     rest_all : AreOfChanges (entries (without_older j) [] r.newer)
     rest_all = of_changes_second (numbered_in j.older r.older) (numbered_in j.newer r.newer) all
 
-    release_keeps : (list : List (ℕ × List ℕ)) (left : List ℕ) → journal_of j.volume j.size covers image ≡ Ok list → ReadsEntries j r.older r.newer left ⊎ ReadsEntries (without_older j) [] r.newer left
+    release_keeps : (list : List (ℕ × List ℕ)) (left : List ℕ) → journal_of j.volume j.size covers image ≡ Ok list → Reads j r.older r.newer left ⊎ Reads (without_older j) [] r.newer left
         → KeepsAbove j.volume j.size covers list left
     release_keeps list left says which =
         let same : entries j r.older r.newer ≡ list = list_is j covers image list r says in
         subst (λ (l : List (ℕ × List ℕ)). KeepsAbove j.volume j.size covers l left) same
         (⊎_elim
-        (λ (q : ReadsEntries j r.older r.newer left). keeps_of j.volume j.size covers (first_base j) (entries j r.older r.newer) (entries j r.older r.newer) left q (based j covers image is r) all refl)
-        (λ (q : ReadsEntries (without_older j) [] r.newer left).
+        (λ (q : Reads j r.older r.newer left). keeps_of j.volume j.size covers (first_base j) (entries j r.older r.newer) (entries j r.older r.newer) left q (based j covers image is r) all refl)
+        (λ (q : Reads (without_older j) [] r.newer left).
         keeps_of j.volume j.size covers (first_base (without_older j)) (entries (without_older j) [] r.newer) (entries j r.older r.newer) left q (newer_low (based j covers image is r)) rest_all rest_same)
         which)
 
@@ -254,20 +265,32 @@ module _ (j : JournalView) (covers : ℕ) (is : IsJournal j) (low : number_behin
         (λ image told list says.
         let r = WhereTold-at (g.image s) (IsRead j covers) image told read in
         let here = WhereTold-at (g.image s) (λ image. (older newer : List (List ℕ)) → StandsFor j image older newer
-        → LeavesOnly g s t (BesideObjects g s (λ left. ReadsEntries j older newer left ⊎ ReadsEntries (without_older j) [] newer left))) image told moments r.older r.newer r.stands in
-        leaves_weaker g s t (λ left. ReadsEntries j r.older r.newer left ⊎ ReadsEntries (without_older j) [] r.newer left) (KeepsAbove j.volume j.size covers list) here
+        → LeavesOnly g s t (BesideObjects g s (λ left. Reads j older newer left ⊎ Reads (without_older j) [] newer left))) image told moments r.older r.newer r.stands in
+        leaves_weaker g s t (λ left. Reads j r.older r.newer left ⊎ Reads (without_older j) [] r.newer left) (KeepsAbove j.volume j.size covers list) here
         (λ left which. release_keeps image r list left says which))
 
   module _ (k : JournalView) (releases : SameButSpare (without_older j) k) where
+    -- an older area that is covered is not one that isn't
+    none_or_low : (o : Option OpenArea) → number_behind o 0 ≤ covers → IfSome o (λ a. covers < a.last) → o ≡ None
+    none_or_low None le lt = refl
+    none_or_low (Some a) le lt = absurd (omega (arith, le, lt))
+
     k_journal : IsJournal k
     k_journal = subst IsJournal (sym releases) (IsJournal-but (without_older j) k.spare j.down (IsJournal-without_older j is))
 
-    pub settled_released : covers < number_behind j.newer 0 → j.pending ≡ [] → j.down ≡ false → SameButSpare (settled covers j) k
-    settled_released above none up =
-        let same = settled_goes_on covers j above in
-        settled_from covers j k (ap (λ (v : JournalView). v.volume) releases) (ap (λ (v : JournalView). v.size) releases) (ap (λ (v : JournalView). v.disk) releases)
-        (ap (λ (v : JournalView). v.older) releases ∙ sym (unless_goes covers j.older low) ∙ sym same.0) (ap (λ (v : JournalView). v.newer) releases ∙ sym same.1)
-        (ap (λ (v : JournalView). v.pending) releases ∙ none) (ap (λ (v : JournalView). v.down) releases ∙ up)
+    pub settled_released : covers < number_behind j.newer 0 → j.pending ≡ [] → j.down ≡ false → IsSettled covers j k
+    settled_released above none up = record {
+      volume = ap (λ (v : JournalView). v.volume) releases;
+      size = ap (λ (v : JournalView). v.size) releases;
+      disk = ap (λ (v : JournalView). v.disk) releases;
+      pending = ap (λ (v : JournalView). v.pending) releases ∙ none;
+      down = ap (λ (v : JournalView). v.down) releases ∙ up;
+      area = subst (λ (v : JournalView). IsSome v.newer) (sym releases) (some_area covers j.newer above);
+      last = ap (λ (v : JournalView). number_behind v.newer 0) releases ∙ omega (arith, above);
+      begun = λ le. absurd (omega (arith, le, above));
+      uncovered = λ lt. subst (λ (v : JournalView). IfSome v.older (λ a. covers < a.last)) (sym releases) tt;
+      kept = λ lt more. (ap (λ (v : JournalView). v.older) releases ∙ sym (none_or_low j.older low more), ap (λ (v : JournalView). v.newer) releases);
+    }
 
     module _ {S : Type 0} (g : Ghosts S) (s t : S) (read : WhereTold (g.image s) (IsRead j covers)) where
       read_released : (old new : List ℕ) (r : IsRead j covers old) → StandsFor k new [] r.newer → IsRead k covers new
@@ -289,15 +312,24 @@ module _ (j : JournalView) (covers : ℕ) (is : IsJournal j) (low : number_behin
           (λ old new. (list : List (ℕ × List ℕ)) → journal_of j.volume j.size covers old ≡ Ok list → KeepsAbove j.volume j.size covers list new) (g.image s) (g.image t) holds
           (λ x y told stands list says.
           let r = WhereTold-at (g.image s) (IsRead j covers) x told read in
-          let q : ReadsEntries k [] r.newer y = reads k y [] r.newer k_journal (stands r.older r.newer r.stands) in
-          release_keeps x r list y says (inr (subst (λ (v : JournalView). ReadsEntries v [] r.newer y) releases q)))
+          let q : Reads k [] r.newer y = reads k y [] r.newer k_journal (stands r.older r.newer r.stands) in
+          release_keeps x r list y says (inr (subst (λ (v : JournalView). Reads v [] r.newer y) releases q)))
 
 -- ---- leaving all as it is
 
-pub settled_still : (j : JournalView) (covers : ℕ) → covers < number_behind j.newer 0 → j.pending ≡ [] → j.down ≡ false → IfSome j.older (λ a. covers < a.last) → SameButSpare (settled covers j) j
-settled_still j covers above none up uncovered =
-    let same = settled_goes_on covers j above in
-    settled_from covers j j refl refl refl (sym (unless_stays covers j.older uncovered) ∙ sym same.0) (sym same.1) none up
+pub settled_still : (j : JournalView) (covers : ℕ) → covers < number_behind j.newer 0 → j.pending ≡ [] → j.down ≡ false → IfSome j.older (λ a. covers < a.last) → IsSettled covers j j
+settled_still j covers above none up uncovered = record {
+  volume = refl;
+  size = refl;
+  disk = refl;
+  pending = none;
+  down = up;
+  area = some_area covers j.newer above;
+  last = omega (arith, above);
+  begun = λ le. absurd (omega (arith, le, above));
+  uncovered = λ lt. uncovered;
+  kept = λ lt more. (refl, refl);
+}
 
 module _ {S : Type 0} (g : Ghosts S) (j : JournalView) (covers : ℕ) (s : S) where
   pub stays_still : StaysAbove g s s j covers

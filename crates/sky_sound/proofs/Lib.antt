@@ -3,6 +3,4 @@ pub mod Bases
 pub mod Blank
 pub mod Claims
 pub mod Clouds
-pub mod Once
-pub mod Settled
 pub mod Texts

@@ -12,12 +12,12 @@ pub mod CallLaws
 pub mod CarryLaws
 pub mod GoesLaws
 pub mod RestartLaws
-pub mod PartLaws
+pub mod RecoverableLaws
 pub mod FeedLaws
 pub mod ReplyLaws
-pub mod WithinLaws
 pub mod PayloadLaws
 pub mod FindingLaws
+pub mod OnceLaws
 pub mod ReopenLaws
 pub mod WipeLaws
 pub mod RefuseLaws
