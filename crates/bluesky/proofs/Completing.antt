@@ -34,7 +34,7 @@ use Rattle.bluesky.proofs.Sites.{tells_both}
 
 restart_claims : (s : State) (n : ℕ) (known : Found) (outs : List OutFrame) (t : State) → s.told ≡ true → known.epoch ≡ s.epoch + 1 → Restarts s known outs t → t.epoch ≡ s.epoch + 1
 restart_claims s n known outs t is next (as_known told reopens) = ap (λ (x : State). x.epoch) reopens.1 ∙ next
-restart_claims s n known outs t is next (untold found silent legal volume same_volume same_size reopens) = absurd (true≢false (sym is ∙ silent))
+restart_claims s n known outs t is next (untold found silent may reopens) = absurd (true≢false (sym is ∙ silent))
 
 -- on a site that tells what it has, a step comes to the epochs that its frame claims
 step_claims : (mem : Supply) (s t : State) (f : InFrame) (outs : List OutFrame) → s.told ≡ true → Step mem s f outs t → t.epoch ≡ s.epoch + restarts_by f

@@ -16,12 +16,13 @@ use Rattle.sky_recover.specs.Opening.{Found, WhereBothTold}
 use Rattle.sky_script.specs.Frame.{InFrame, OutFrame, IsInFrame, in_frame, in_frames, out_frame, out_frames, magic}
 use Rattle.sky_sound.specs.Boot.{Claims, claimed, claimed_times}
 use Rattle.sky_sound.specs.Recovery.{FindsSame}
+use Rattle.sky_world.specs.Finding.{LeftWithin}
 use Rattle.sky_world.specs.Meaning.{State, Scarce, start, opening, Step, Steps}
 use Rattle.sky_settings.specs.declared.settings.Fields.{Fields}
 use Rattle.sky_world.specs.World.{WorldView, Stands, Stepped, restarts_by, tells}
 use Rattle.sky_world.proofs.FindingLaws.{both_told_at, both_told_from}
 use Rattle.sky_world.proofs.SiteLaws.{step_tells}
-use Rattle.bluesky.specs.Run.{Course, IsCourse, LeftBetween, LeftWithin, further, no_course, recording, restarts_in, session_bytes}
+use Rattle.bluesky.specs.Run.{Course, IsCourse, LeftBetween, further, no_course, recording, restarts_in, session_bytes}
 use Rattle.bluesky.specs.Stop.{Opened}
 use Rattle.bluesky.proofs.Sites.{told_both, tells_both, opened_leaves}
 
@@ -119,7 +120,7 @@ between_more course f outs new image objects step b = record {
 
 -- and so is the last
 between_last : (course : Course) (f : InFrame) (outs : List OutFrame) (new : State) (image : List ℕ) (objects : CloudMap) → IsCourse Scarce course → Step Scarce course.last f outs new
-    → LeftWithin course.last f new image objects → LeftBetween (further course f outs new) image objects
+    → LeftWithin course.last f outs image objects → LeftBetween (further course f outs new) image objects
 between_last course f outs new image objects is step left = record {
   before = course.frames;
   f = f;
@@ -189,12 +190,12 @@ module _ {S : Type 0} (g : Ghosts S) (settings : Fields) (told : Bool) (found : 
 
   -- over one frame more
   leaves_on : (s2 : S) (f : InFrame) (outs : List OutFrame) (next : State) → Step Scarce going.course.last f outs next
-      → WhereBothTold g s1 (λ image objects. LeavesOnly g s1 s2 (LeftWithin going.course.last f next))
+      → WhereBothTold g s1 (λ image objects. LeavesOnly g s1 s2 (LeftWithin going.course.last f outs))
       → (s : S) → Opened g settings s s0 found → LeavesSoFar g settings s s2 (further going.course f outs next)
   leaves_on s2 f outs next step leaves s opened =
       let course : Course = going.course in
       let more : Course = further course f outs next in
-      let within : OfPair = LeftWithin course.last f next in
+      let within : OfPair = LeftWithin course.last f outs in
       both_told_from g s (λ read held. LeavesOnly g s s2 (LeftSoFar settings read held more))
       (λ read held is held_is.
       let so_far = both_told_at g s (λ r h. LeavesOnly g s s1 (LeftSoFar settings r h course)) read held is held_is (going.leaves s opened) in

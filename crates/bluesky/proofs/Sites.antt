@@ -4,7 +4,7 @@
 --   found_prefix                  what recovery finds is what the opening found
 --   refused_unsound               a sound site is refused for nothing that it has
 use Rattle.std.specs.Prelude.{is_some, ◌&&◌}
-use Rattle.std.proofs.Common.{◌≡◌, ◌+◌, ◌-◌, ℕ, true, Option, Some, None, Ok, List, length, take, refl, sym, ap, subst, ◌∙◌, arith}
+use Rattle.std.proofs.Common.{◌≡◌, ◌+◌, ◌-◌, ◌<◌, ℕ, true, Option, Some, None, Ok, List, length, take, refl, sym, ap, subst, ◌∙◌, arith}
 use Rattle.std.proofs.Math.Seq.{take-length}
 use Rattle.sky_base.specs.declared.place.Lost.TheVariants as lost
 use Rattle.sky_base.specs.declared.status.Status.{Status}
@@ -12,7 +12,7 @@ use Rattle.sky_base.specs.declared.status.Status.TheVariants as status
 use Rattle.sky_nfs.specs.History.{History, history_length, last_tree, tree_after_changes, tree_at_length}
 use Rattle.sky_nfs.specs.declared.call.Change.{Change}
 use Rattle.sky_outside.specs.CloudMap.{CloudMap}
-use Rattle.sky_outside.specs.Moments.{LeavesOnly, NothingPending, OfPair}
+use Rattle.sky_outside.specs.Moments.{HoldsNow, LeavesOnly, NothingPending, OfPair}
 use Rattle.sky_outside.specs.declared.storage.Storage.{Ghosts}
 use Rattle.sky_outside.proofs.MomentLaws.{LeavesOnly-start, only_read}
 use Rattle.sky_outside.proofs.ToldLaws.{WhereTold-at}
@@ -20,8 +20,11 @@ use Rattle.sky_recover.specs.Opening.{BeginsAt, Found, IsFoundOn, LeavesFound, W
 use Rattle.sky_recover.specs.declared.fault.OpenFault.TheVariants as fault
 use Rattle.sky_recover.proofs.Refused.{sound_unrefused}
 use Rattle.sky_settings.specs.declared.settings.Fields.{Fields}
+use Rattle.sky_sound.specs.Boot.{Claims, claimed}
+use Rattle.sky_sound.specs.Cloud.{epoch_after}
 use Rattle.sky_sound.specs.Recovery.{FindsSame, IsSound, history_of, recovered}
 use Rattle.sky_sound.proofs.Above.{history_recovered}
+use Rattle.sky_sound.proofs.Claims.{epoch_after-claimed}
 use Rattle.sky_world.specs.Finding.{FindsPrefix}
 use Rattle.sky_world.specs.Meaning.{kept_of}
 use Rattle.sky_world.specs.Opening.{IsRefusedAs}
@@ -50,6 +53,12 @@ module _ {S : Type 0} (g : Ghosts S) where
   pub tells_both : (s : S) (image : List ℕ) (objects : CloudMap) → g.image s ≡ Some image → g.objects s ≡ Some objects → tells g s ≡ true
   tells_both s image objects is held = two_tell (g.image s) (g.objects s) image objects is held
 
+-- what a cloud that tells holds once an epoch was claimed
+claims_told : (a b : Option CloudMap) (held : CloudMap) → a ≡ Some held → Claims 1 a b → (objects : CloudMap) × (b ≡ Some objects) × (objects ≡ claimed held)
+claims_told None b held is claims = absurd cc
+claims_told (Some x) None held is claims = absurd claims
+claims_told (Some x) (Some y) held is claims = let same : x ≡ held = cc in (y, refl, claims ∙ ap claimed same)
+
 -- ---- until the first frame
 
 module _ {S : Type 0} (g : Ghosts S) (settings : Fields) where
@@ -67,7 +76,7 @@ module _ {S : Type 0} (g : Ghosts S) (settings : Fields) where
       (λ left now may.
       let same : left ≡ image = only_read g s image is nothing left may.0 in
       let beside : now ≡ objects = WhereTold-at (g.objects s) (λ told. now ≡ told) objects held may.1 in
-      let here : FindsSame volume size image objects image objects = record { sound = sound; same = refl } in
+      let here : FindsSame volume size image objects image objects = record { sound = sound; same = refl; epoch = omega arith } in
       subst (λ (i : List ℕ). FindsSame volume size image objects i now) (sym same)
       (subst (λ (o : CloudMap). FindsSame volume size image objects image o) (sym beside) here))
 
@@ -114,10 +123,11 @@ module _ {S : Type 0} (g : Ghosts S) (settings : Fields) where
       let long : (h.before + length h.changes) - h.before ≡ length h.changes = omega arith in
       ap (λ (n : ℕ). tree_after_changes h.tree (take n h.changes)) long ∙ ap (λ (l : List Change). tree_after_changes h.tree l) (take-length h.changes)
 
-  -- where recovery finds the same as on a site, it finds what an opening found there
+  -- where recovery finds the same as on a site, it finds what an opening found there; and behind the opening its epoch was claimed
   pub found_prefix : (s : S) (found : Found) (read : List ℕ) (held : CloudMap) → g.image s ≡ Some read → g.objects s ≡ Some held → IsFoundOn g volume size s found
-      → (image : List ℕ) (objects : CloudMap) → FindsSame volume size read held image objects → FindsPrefix (history_length found.history) (kept_of found) image objects
-  found_prefix s found read held is held_is on image objects same =
+      → (image : List ℕ) (objects : CloudMap) → FindsSame volume size read held image objects → found.epoch < epoch_after objects
+      → FindsPrefix found.epoch (history_length found.history) (kept_of found) image objects
+  found_prefix s found read held is held_is on image objects same later =
       let h : History = found.history in
       let was = history_recovered volume size read held h (history_found s found read held is held_is on) in
       let tree : last_tree h ≡ tree_at_length h (history_length h) = sym (tree_at_end h) in
@@ -130,7 +140,17 @@ module _ {S : Type 0} (g : Ghosts S) (settings : Fields) where
         sound = subst (λ (v : ℕ). IsSound v found.journal.size image objects) (sym on.journal_volume) (subst (λ (z : ℕ). IsSound volume z image objects) (sym on.journal_size) same.sound);
         found = subst (λ (v : ℕ). recovered v found.journal.size image objects ≡ Ok (record { length = history_length h; tree = tree_at_length h (history_length h) })) (sym on.journal_volume)
             (subst (λ (z : ℕ). recovered volume z image objects ≡ Ok (record { length = history_length h; tree = tree_at_length h (history_length h) })) (sym on.journal_size) now);
+        later_epoch = later;
       }
+
+  -- behind an opening the cloud holds the boot object of its epoch
+  pub claimed_later : (s t : S) (found : Found) (held : CloudMap) → g.objects s ≡ Some held → IsFoundOn g volume size s found → Claims 1 (g.objects s) (g.objects t)
+      → (objects : CloudMap) → HoldsNow g t objects → found.epoch < epoch_after objects
+  claimed_later s t found held is on claims objects now =
+      let begins : found.epoch ≡ epoch_after held = (WhereTold-at (g.objects s) (BeginsAt volume found) held is on.cloud).epoch in
+      let told = claims_told (g.objects s) (g.objects t) held is claims in
+      let same : objects ≡ claimed held = WhereTold-at (g.objects t) (λ o. objects ≡ o) told.0 told.1 now ∙ told.2 in
+      omega (arith, begins, ap epoch_after same, epoch_after-claimed held)
 
 -- ---- a sound site
 

@@ -1,6 +1,6 @@
 -- How a run that stops comes to its end.
 use Rattle.std.specs.Prelude.{slice_index_or}
-use Rattle.std.proofs.Common.{◌≡◌, ◌≢◌, ◌+◌, ◌<◌, ◌≤◌, ◌⊎◌, inl, inr, ⊎_elim, ℕ, Bool, true, Option, None, Some, List, [], ◌∷◌, ◌++◌, length, take, refl, sym, ap, subst, ◌∙◌, arith}
+use Rattle.std.proofs.Common.{◌≡◌, ◌≢◌, ◌+◌, ◌<◌, ◌≤◌, ◌⊎◌, inl, inr, ⊎_elim, ℕ, Bool, true, Option, None, Some, List, [], ◌∷◌, ◌++◌, length, take, refl, sym, ap, subst, ◌∙◌, append_assoc, arith}
 use Rattle.std.proofs.lemmas.List.{append-nil}
 use Rattle.std.proofs.lemmas.Bool.{true≢false}
 use Rattle.sky_base.specs.declared.status.Status.{Status}
@@ -24,12 +24,12 @@ use Rattle.sky_world.specs.World as world
 use Rattle.sky_world.specs.World.{IsRestart, WorldView, SinkGot, SteppedDown, StandsFor, restarts_by, tells}
 use Rattle.sky_world.specs.declared.sessions.Session.{Session}
 use Rattle.sky_world.specs.declared.sessions.Session.TheVariants as slot
-use Rattle.bluesky.specs.Run.{frame_limit, Course, End, IsCourse, IsOfDamage, IsReplayed, LastStep, SourceUse, SinkUse, Used, no_frame, within_frame, GaveUpTo, GaveEnding, SinkCounts, AnswerFailed, at_answer, at_end, EndsInRestart, RecordFailed, BeginFailed, EndsBy, LeavesOfRun, RanOn, end_at, restarts_in, session_bytes}
+use Rattle.bluesky.specs.Run.{frame_limit, Course, End, FindsAtEnd, LeftInLast, IsCourse, IsOfDamage, IsReplayed, LastStep, SourceUse, SinkUse, Used, no_frame, within_frame, GaveUpTo, GaveEnding, SinkCounts, AnswerFailed, at_answer, at_end, EndsInRestart, RecordFailed, BeginFailed, EndsBy, LeavesOfRun, RanOn, end_at, restarts_in, session_bytes}
 use Rattle.bluesky.specs.Stop.{IsStop, MayStop, Opened, StepStopped, StoppedBy, Finishes}
 use Rattle.bluesky.specs.declared.frames.Stop.{Stop}
 use Rattle.bluesky.specs.declared.frames.Stop.TheVariants as stop
 use Rattle.bluesky.proofs.Going.{Going, restarts_then, session_then, so_far, so_far_then, given_so_far}
-use Rattle.bluesky.proofs.Leaving.{claims_so_far, claims_with, leaves_still, leaves_within}
+use Rattle.bluesky.proofs.Leaving.{claims_so_far, claims_with, finds_behind, leaves_still, leaves_within}
 
 -- ---- the last frame, behind what was given before
 
@@ -114,7 +114,7 @@ module _ {S : Type 0} (g : Ghosts S) (settings : Fields) (told : Bool) (found : 
   course = going.course
 
   -- a run that ended behind the frames that were handled
-  ran : (v : Status) (end : End) → LeavesOfRun g settings s s2 end → EndsBy v used course end → (end.restart ≡ Some Restart → LeavesRefusedAs g s1 s2 v) → LeavesCloudAs g s1 s2 v
+  ran : (v : Status) (end : End) → LeavesOfRun g settings s s2 course end → EndsBy v used course end → (end.restart ≡ Some Restart → LeavesRefusedAs g s1 s2 v) → LeavesCloudAs g s1 s2 v
       → RanOn g settings s s2 v source sink
   ran v end leaves ends untouched beside =
       record {
@@ -138,16 +138,25 @@ module _ {S : Type 0} (g : Ghosts S) (settings : Fields) (told : Bool) (found : 
       }
 
   -- the site was left alone since
-  still : s2 ≡ s1 → LeavesOfRun g settings s s2 (end_at course)
-  still same = subst (λ (t : S). LeavesOfRun g settings s t (end_at course)) (sym same) (leaves_still g settings told found of s s0 s1 l0 l1 g0 g1 place count opened going)
+  still : s2 ≡ s1 → LeavesOfRun g settings s s2 course (end_at course)
+  still same = subst (λ (t : S). LeavesOfRun g settings s t course (end_at course)) (sym same) (leaves_still g settings told found of s s0 s1 l0 l1 g0 g1 place count opened going)
 
   -- such a run
   ran_still : (v : Status) → LeavesCloudAs g s1 s2 v → s2 ≡ s1 → EndsBy v used course (end_at course) → RanOn g settings s s2 v source sink
   ran_still v beside same ends = ran v (end_at course) (still same) ends (λ e. absurd cc) beside
 
-  -- a step was under way
-  within : (end : End) → end.handled ≡ course → finding.LeavesFinding g s1 s2 end.floor end.kept → Claims end.claims (g.objects s) (g.objects s2) → LeavesOfRun g settings s s2 end
-  within end same leaves claims = leaves_within g settings told found of s s0 s1 l0 l1 g0 g1 place count opened going s2 end same leaves claims
+  -- a frame was under way, which is cut behind a record
+  within : (end : End) (f : InFrame) (outs : List OutFrame) → end.under_way ≡ Some (f, outs) → finding.LeavesWithin g s1 s2 course.last f outs → finding.FindsBehind g s1 s2 end.epoch end.floor end.kept
+      → Claims end.claims (g.objects s) (g.objects s2) → LeavesOfRun g settings s s2 course end
+  within end f outs same leaves behind claims =
+      leaves_within g settings told found of s s0 s1 l0 l1 g0 g1 place count opened going s2 end (finding.LeftWithin course.last f outs)
+      (λ image objects p. inl (subst (λ (x : Option (InFrame × List OutFrame)). LeftInLast course.last x image objects) (sym same) p)) leaves behind claims
+
+  -- a restart was
+  within_restart : (end : End) → finding.LeavesFinding g s1 s2 end.epoch end.floor end.kept → Claims end.claims (g.objects s) (g.objects s2) → LeavesOfRun g settings s s2 course end
+  within_restart end leaves claims =
+      leaves_within g settings told found of s s0 s1 l0 l1 g0 g1 place count opened going s2 end (FindsAtEnd end) (λ image objects p. inr p) leaves
+      (finds_behind g settings s1 s2 end.epoch end.floor end.kept leaves) claims
 
   -- with the epochs of the last frame
   with_frame : (f : InFrame) → Claims (restarts_by f) (g.objects s1) (g.objects s2) → Claims (1 + restarts_in (course.frames ++ f ∷ [])) (g.objects s) (g.objects s2)
@@ -208,22 +217,42 @@ module _ {S : Type 0} (g : Ghosts S) (settings : Fields) (told : Bool) (found : 
 
   -- ---- a step failed
 
-  -- the sink, within the answers to a frame
+  -- the sink, at an answer to a frame
   ran_sink : (f : InFrame) → IsInFrame f → Had l1 l2 (in_frame f) → g3 ≡ g2 → Claims (restarts_by f) (g.objects s1) (g.objects s2) → world.SteppedPart g of s1 f s2 got
       → RanOn g settings s s2 status.SinkFault source sink
   ran_sink f formed read unwritten claims part =
       let went = part course.last going.stands in
-      let moved = subst (λ (b : Option (List ℕ)). GivenPart g1 b (out_frames went.0)) (sym unwritten) went.3 in
-      let up = part_then before g1 g3 x z (session_bytes found course.answers) (out_frames went.0) given_then moved in
+      let under = went.under in
+      let moved = subst (λ (b : Option (List ℕ)). Given g1 b (out_frames under.said ++ take went.kept (out_frames under.own))) (sym unwritten) went.given in
+      let up : GaveUpTo sink (session_bytes found (course.answers ++ under.said)) (out_frames under.own) =
+      record {
+        kept = went.kept;
+        less = went.less;
+        given = subst (λ (bytes : List ℕ). Given before g3 bytes)
+            (sym (append_assoc (session_bytes found course.answers) (out_frames under.said) (take went.kept (out_frames under.own)))
+            ∙ ap (λ (bytes : List ℕ). bytes ++ take went.kept (out_frames under.own)) (session_then found course.answers under.said))
+            (Given-then before g1 g3 (session_bytes found course.answers) (out_frames under.said ++ take went.kept (out_frames under.own)) given_then moved);
+      } in
       let end : End = record {
-        handled = course;
-        floor = floor_of f course.last;
-        kept = finding.reached f course.last went.1;
+        under_way = Some (f, under.said ++ under.own);
+        epoch = under.next.epoch;
+        floor = under.next.kept.mark;
+        kept = under.next.kept;
         claims = 1 + restarts_in (course.frames ++ f ∷ []);
         restart = None;
       } in
-      let failed : AnswerFailed used course end = record { f = f; outs = went.0; new = went.1; formed = formed; step = went.2; took = took (in_frame f) read; gave = up; end_is = refl } in
-      ran status.SinkFault end (within end refl went.4 (with_frame f claims)) (are_few, at_answer failed) (λ e. absurd cc) tt
+      let failed : AnswerFailed used course end = record {
+        f = f;
+        formed = formed;
+        under = under;
+        rest = went.rest;
+        new = went.last;
+        step = went.goes_on;
+        took = took (in_frame f) read;
+        gave = up;
+        end_is = refl;
+      } in
+      ran status.SinkFault end (within end f (under.said ++ under.own) refl went.leaves went.behind (with_frame f claims)) (are_few, at_answer failed) (λ e. absurd cc) tt
 
   -- the disk, in a record
   ran_record : (f : InFrame) → IsInFrame f → Had l1 l2 (in_frame f) → y ≡ x → GaveEnding finished [] status.JournalFault → MayClaim (restarts_by f) (g.objects s1) (g.objects s2) → SteppedDown g of s1 f s2 got
@@ -231,26 +260,33 @@ module _ {S : Type 0} (g : Ghosts S) (settings : Fields) (told : Bool) (found : 
   ran_record f formed read quiet last claims step =
       let down = down_bytes g of s1 s2 f got step in
       let went = down.3 course.last going.stands in
-      let all = subst (λ (bytes : List ℕ). Given before g2 bytes) (session_then found course.answers went.1)
-      (Given-then before g1 g2 (session_bytes found course.answers) (out_frames went.1) given_then went.5) in
-      let end : End = record { handled = course; floor = course.last.kept.mark; kept = went.3.kept; claims = 1 + restarts_in course.frames; restart = None } in
+      let under = went.under in
+      let all = subst (λ (bytes : List ℕ). Given before g2 bytes) (session_then found course.answers under.said)
+      (Given-then before g1 g2 (session_bytes found course.answers) (out_frames under.said) given_then went.given) in
+      let bytes : InFrame = Bytes down.0 down.1 in
+      let end : End = record {
+        under_way = Some (bytes, under.said ++ under.own);
+        epoch = course.last.epoch;
+        floor = under.mid.kept.mark;
+        kept = under.next.kept;
+        claims = 1 + restarts_in course.frames;
+        restart = None;
+      } in
       let none : Claims 0 (g.objects s1) (g.objects s2) =
       ⊎_elim (λ n. n) (λ n. n) (claimed_or_not 0 (g.objects s1) (g.objects s2) (subst (λ (h : InFrame). MayClaim (restarts_by h) (g.objects s1) (g.objects s2)) down.2 claims)) in
       let failed : RecordFailed used course end =
       record {
         session = down.0;
         payload = down.1;
-        cut = went.0;
-        outs = went.1;
-        unsaid = went.2;
-        new = went.3;
         formed = subst IsInFrame down.2 formed;
-        stepped = went.4;
+        under = under;
+        unsaid = went.unsaid;
+        own_is = went.own_is;
         took = subst (λ (h : InFrame). Had had l2 (magic ++ in_frames course.frames ++ in_frame h)) down.2 (took (in_frame f) read);
-        gave = ending_then before g2 g3 x y z (session_bytes found (course.answers ++ went.1)) status.JournalFault quiet all last;
+        gave = ending_then before g2 g3 x y z (session_bytes found (course.answers ++ under.said)) status.JournalFault quiet all last;
         end_is = refl;
       } in
-      ran status.JournalFault end (within end refl went.6 (without_frame none)) (are_few, inl failed) (λ e. absurd cc) tt
+      ran status.JournalFault end (within end bytes (under.said ++ under.own) refl went.leaves went.behind (without_frame none)) (are_few, inl failed) (λ e. absurd cc) tt
 
   -- there was no memory for a session
   ran_begin : (f : InFrame) → IsInFrame f → Had l1 l2 (in_frame f) → y ≡ x → GaveEnding finished [] status.Memory → world.BeginsFirst of f → world.DidNothing s1 s2 got → RanOn g settings s s2 status.Memory source sink
@@ -268,13 +304,13 @@ module _ {S : Type 0} (g : Ghosts S) (settings : Fields) (told : Bool) (found : 
 
   -- a restart came to no end, and so many epochs were claimed
   abbrev restart_end : InFrame → ℕ → End
-  restart_end f n = record { handled = course; floor = floor_of f course.last; kept = course.last.kept; claims = n; restart = Some f }
+  restart_end f n = record { under_way = None; epoch = course.last.epoch; floor = floor_of f course.last; kept = course.last.kept; claims = n; restart = Some f }
 
   -- what it came to
   record RestartEnds (v : Status) : Type 0 where
     end : End
     ends : EndsInRestart used course v end
-    leaves : LeavesOfRun g settings s s2 end
+    leaves : LeavesOfRun g settings s s2 course end
     untouched : end.restart ≡ Some Restart → LeavesRefusedAs g s1 s2 v
 
   restart_ends : (v : Status) (f : InFrame) → MayRefuse v course.last → Had l1 l2 (in_frame f) → y ≡ x → GaveEnding finished [] v → MayClaim (restarts_by f) (g.objects s1) (g.objects s2)
@@ -286,7 +322,7 @@ module _ {S : Type 0} (g : Ghosts S) (settings : Fields) (told : Bool) (found : 
       let it : RestartEnds v = record {
         end = restart_end f n;
         ends = record { f = f; restart = failed.restart; cause = may; took = took (in_frame f) read; gave = ending v failed.unwritten quiet last; claims = either; end_is = refl };
-        leaves = within (restart_end f n) refl (failed.leaves course.last going.stands) claimed;
+        leaves = within_restart (restart_end f n) (failed.leaves course.last going.stands) claimed;
         untouched = λ e. untouched (let same : f ≡ Restart = cc in same);
       } in it in
       ⊎_elim (λ none. with_claims plain (inl refl) (without_frame none)) (λ one. with_claims more (inr refl) (with_frame f one)) (claimed_or_not (restarts_by f) (g.objects s1) (g.objects s2) claims)

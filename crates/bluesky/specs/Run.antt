@@ -15,7 +15,7 @@ use Rattle.sky_script.specs.Beginning.{IsRefused, IsCutShort}
 use Rattle.sky_settings.specs.declared.settings.Fields.{Fields}
 use Rattle.sky_sound.specs.Boot.{Claims, MayClaim}
 use Rattle.sky_sound.specs.Recovery.{FindsSame}
-use Rattle.sky_world.specs.Finding.{FindsPrefix, floor_of, reached}
+use Rattle.sky_world.specs.Finding.{FindsPrefix, LeftWithin, RecordUnderWay, floor_of}
 use Rattle.sky_world.specs.Laws.{NoneOutOfMemory}
 use Rattle.sky_world.specs.Meaning.{State, Kept, Absent, Memory as Supply, Ample, Scarce, start, opening, session_at, Step, Steps}
 use Rattle.sky_world.specs.Opening.{IsRefusedAs, LeavesCloudAs, LeavesRefusedAs, MayRefuse}
@@ -141,10 +141,6 @@ written_by used course = session_bytes used.found course.answers
 
 -- ---- what a run does with its site
 
--- what a crash leaves within a step, from this state by this frame to that one: recovery finds a prefix of the history
-abbrev pub LeftWithin : State → InFrame → State → OfPair
-LeftWithin old f new image objects = FindsPrefix (floor_of f old) (reached f old new) image objects
-
 -- What a crash leaves within one of the steps of a course. The answers are those of the course: those of the frames before, those of the step, and the rest.
 pub record LeftBetween (course : Course) (image : List ℕ) (objects : CloudMap) : Type 0 where
   -- the frames before the step, its own, and those behind it
@@ -161,12 +157,14 @@ pub record LeftBetween (course : Course) (image : List ℕ) (objects : CloudMap)
   pub handled : Steps Scarce course.first before said old
   pub step : Step Scarce old f outs new
   pub goes_on : Steps Scarce new behind rest course.last
-  pub left : LeftWithin old f new image objects
+  pub left : LeftWithin old f outs image objects
 
--- What a run came to: the course that decides what a crash leaves of it; how many changes recovery finds at least behind the run, and of which history;
--- how many epochs were claimed; and the restart that came to no end, if one did.
+-- What a run came to. The frame that was under way, where it ended within one, with its answers up to the record at which it ended. What recovery finds behind it:
+-- the epoch that the next one is greater than, how many changes at least, and of which history. How many epochs were claimed. And the restart that
+-- came to no end, if one did.
 pub record End : Type 0 where
-  pub handled : Course
+  pub under_way : Option (InFrame × List OutFrame)
+  pub epoch : ℕ
   pub floor : ℕ
   pub kept : Kept
   pub claims : ℕ
@@ -175,43 +173,57 @@ pub record End : Type 0 where
 -- behind a course, between two steps: the mark, and each restart claimed an epoch, as the opening did
 abbrev pub end_at : Course → End
 end_at course = record {
-  handled = course;
+  under_way = None;
+  epoch = course.last.epoch;
   floor = course.last.kept.mark;
   kept = course.last.kept;
   claims = 1 + restarts_in course.frames;
   restart = None;
 }
 
--- From s to t, over a run that came to this end. Where the site tells what it has, after a crash at any moment recovery finds the same as at the start, or what a
--- crash leaves within one of the steps, or what is found behind the run; and after a crash behind it, that alone. In the cloud nothing was changed
--- but by the boot objects of the epochs.
-pub record LeavesOfRun {S : Type 0} (g : Ghosts S) (settings : Fields) (s t : S) (end : End) : Type 0 where
+-- what a crash leaves within the frame that was under way behind a course
+abbrev pub LeftInLast : State → Option (InFrame × List OutFrame) → OfPair
+LeftInLast last None image objects = ⊥
+LeftInLast last (Some x) image objects = LeftWithin last x.0 x.1 image objects
+
+-- what recovery finds behind a run that came to this end
+abbrev pub FindsAtEnd : End → OfPair
+FindsAtEnd end image objects = FindsPrefix end.epoch end.floor end.kept image objects
+
+-- From s to t, over a run that handled this course and came to this end. Where the site tells what it has, after a crash at any moment recovery finds the same as at
+-- the start, or what a crash leaves within one of the steps or within the last frame, or what is found behind the run; and after a crash behind it, that alone. In the
+-- cloud nothing was changed but by the boot objects of the epochs.
+pub record LeavesOfRun {S : Type 0} (g : Ghosts S) (settings : Fields) (s t : S) (course : Course) (end : End) : Type 0 where
   pub any_moment : WhereBothTold g s (λ read held. LeavesOnly g s t (λ image objects.
-      FindsSame settings.volume settings.journal_area read held image objects ⊎ LeftBetween end.handled image objects ⊎ FindsPrefix end.floor end.kept image objects))
-  pub behind : WhereBothTold g s (λ read held. (image : List ℕ) (objects : CloudMap) → MayLeaveNow g t image objects
-      → FindsPrefix end.floor end.kept image objects)
+      FindsSame settings.volume settings.journal_area read held image objects ⊎ LeftBetween course image objects
+      ⊎ LeftInLast course.last end.under_way image objects ⊎ FindsAtEnd end image objects))
+  pub behind : WhereBothTold g s (λ read held. (image : List ℕ) (objects : CloudMap) → MayLeaveNow g t image objects → FindsAtEnd end image objects)
   pub boots : Claims end.claims (g.objects s) (g.objects t)
 
 -- ---- how a run ends
 
--- The answers to the frame that was read last were not given whole: the sink failed at them.
+-- The sink failed at an answer to the frame that was read last: it was given the answers before the record under way, and of its own one less than all. What that
+-- one acknowledges is stable all the same.
 pub record AnswerFailed (used : Used) (course : Course) (end : End) : Type 0 where
   pub f : InFrame
-  pub outs : List OutFrame
-  pub new : State
   pub formed : IsInFrame f
-  pub step : Step Scarce course.last f outs new
+  pub under : RecordUnderWay course.last f
+  -- the whole frame has a step, whose answers begin so
+  pub rest : List OutFrame
+  pub new : State
+  pub step : Step Scarce course.last f ((under.said ++ under.own) ++ rest) new
   pub took : Took used.source (recording course.frames (in_frame f))
-  pub gave : GaveUpTo used.sink (written_by used course) (out_frames outs)
+  pub gave : GaveUpTo used.sink (session_bytes used.found (course.answers ++ under.said)) (out_frames under.own)
   pub end_is : end ≡ record {
-    handled = course;
-    floor = floor_of f course.last;
-    kept = reached f course.last new;
+    under_way = Some (f, under.said ++ under.own);
+    epoch = under.next.epoch;
+    floor = under.next.kept.mark;
+    kept = under.next.kept;
     claims = 1 + restarts_in (course.frames ++ f ∷ []);
     restart = None;
   }
 
--- The sink failed: at the frame of the opening, before anything was read; at the answers to the frame that was read last; or at the last frame, behind the end.
+-- The sink failed: at the frame of the opening, before anything was read; at an answer to the frame that was read last; or at the last frame, behind the end.
 pub data SinkFailed (used : Used) (course : Course) (end : End) : Type 0 where
   at_opening : course.frames ≡ [] → end ≡ end_at course → TookNothing used.source → GaveUpTo used.sink magic (out_frame (opening used.found))
       → SinkFailed used course end
@@ -228,22 +240,34 @@ pub record EndsInRestart (used : Used) (course : Course) (status : Status) (end 
   pub took : Took used.source (recording course.frames (in_frame f))
   pub gave : GaveEnding used.sink (written_by used course) status
   pub claims : (end.claims ≡ 1 + restarts_in course.frames) ⊎ (end.claims ≡ 1 + restarts_in (course.frames ++ f ∷ []))
-  pub end_is : end ≡ record { handled = course; floor = floor_of f course.last; kept = course.last.kept; claims = end.claims; restart = Some f }
+  pub end_is : end ≡ record {
+    under_way = None;
+    epoch = course.last.epoch;
+    floor = floor_of f course.last;
+    kept = course.last.kept;
+    claims = end.claims;
+    restart = Some f;
+  }
 
--- A call of the journal's disk failed in a record of the frame that was read last. Of that frame, cut behind this record, the sink was
--- given all answers but the last one.
+-- A call of the journal's disk failed in a record of the frame that was read last. Of that frame, the sink was given the answers before this record, whose changes
+-- are stable.
 pub record RecordFailed (used : Used) (course : Course) (end : End) : Type 0 where
   pub session : ℕ
   pub payload : List ℕ
-  pub cut : ℕ
-  pub outs : List OutFrame
-  pub unsaid : OutFrame
-  pub new : State
   pub formed : IsInFrame (Bytes session payload)
-  pub stepped : Step Scarce course.last (Bytes session (take cut payload)) (outs ++ unsaid ∷ []) new
+  pub under : RecordUnderWay course.last (Bytes session payload)
+  pub unsaid : OutFrame
+  pub own_is : under.own ≡ unsaid ∷ []
   pub took : Took used.source (recording course.frames (in_frame (Bytes session payload)))
-  pub gave : GaveEnding used.sink (session_bytes used.found (course.answers ++ outs)) JournalFault
-  pub end_is : end ≡ record { handled = course; floor = course.last.kept.mark; kept = new.kept; claims = 1 + restarts_in course.frames; restart = None }
+  pub gave : GaveEnding used.sink (session_bytes used.found (course.answers ++ under.said)) JournalFault
+  pub end_is : end ≡ record {
+    under_way = Some (Bytes session payload, under.said ++ under.own);
+    epoch = course.last.epoch;
+    floor = under.mid.kept.mark;
+    kept = under.next.kept;
+    claims = 1 + restarts_in course.frames;
+    restart = None;
+  }
 
 -- There was no memory for a session that had not begun before, and begins in the frame that was read last.
 pub record BeginFailed (used : Used) (course : Course) (end : End) : Type 0 where
@@ -302,7 +326,7 @@ pub record RanOn {S : Type 0} (g : Ghosts S) (settings : Fields) (s t : S) (stat
   pub handled : IsCourse Scarce course
   pub ends : EndsBy status (record { source = source; sink = sink; found = found }) course end
   pub last_step : ((status ≡ SinkFault) × (course.frames ≡ [])) ⊎ LastStep g s t course.last status end
-  pub leaves : LeavesOfRun g settings s t end
+  pub leaves : LeavesOfRun g settings s t course end
 
 -- what was written by a run that did not open its site: nothing, where the words or the settings were refused; or the magic, and the last frame
 abbrev pub GaveUnopened : Status → SinkUse → Type 0

@@ -70,7 +70,7 @@ passed es entries (Err place) b e = absurd cc
 passed es entries (Ok x) (Err place) e = absurd cc
 passed es entries (Ok x) (Ok y) e = cc
 
-is_batch_at : (is_entry : List ℕ → Bool) (last place first : ℕ) (o : Option (List (List ℕ))) (entries : List (List ℕ))
+pub is_batch_at : (is_entry : List ℕ → Bool) (last place first : ℕ) (o : Option (List (List ℕ))) (entries : List (List ℕ))
     → (ok_or o place >>= λ es. foreign_where (nat_le max_number (last + length es)) place >>= λ _. all_of_grammar is_entry first es >>= λ _. Ok es) ≡ Ok entries → o ≡ Some entries
 is_batch_at is_entry last place first None entries e = absurd cc
 is_batch_at is_entry last place first (Some es) entries e = passed es entries (foreign_where (nat_le max_number (last + length es)) place) (all_of_grammar is_entry first es) e

@@ -12,6 +12,7 @@ pub mod Committed
 pub mod Committing
 pub mod Crash
 pub mod Disks
+pub mod EntryPlaces
 pub mod Entries
 pub mod Frames
 pub mod Halves

@@ -109,29 +109,29 @@ nothing (e ∷ es) none = absurd (omega arith)
 
 -- ---- which areas are read
 
-open_first : (a b : Area) → is_open 0 a.bytes ≡ true → is_open 0 b.bytes ≡ false → open_areas a b ≡ a ∷ []
+pub open_first : (a b : Area) → is_open 0 a.bytes ≡ true → is_open 0 b.bytes ≡ false → open_areas a b ≡ a ∷ []
 unfolding open_areas
 open_first a b opened closed = rw (opened, closed) refl
 
-open_second : (a b : Area) → is_open 0 a.bytes ≡ false → is_open 0 b.bytes ≡ true → open_areas a b ≡ b ∷ []
+pub open_second : (a b : Area) → is_open 0 a.bytes ≡ false → is_open 0 b.bytes ≡ true → open_areas a b ≡ b ∷ []
 unfolding open_areas
 open_second a b closed opened = rw (closed, opened) refl
 
-open_none : (a b : Area) → is_open 0 a.bytes ≡ false → is_open 0 b.bytes ≡ false → open_areas a b ≡ []
+pub open_none : (a b : Area) → is_open 0 a.bytes ≡ false → is_open 0 b.bytes ≡ false → open_areas a b ≡ []
 unfolding open_areas
 open_none a b first second = rw (first, second) refl
 
-open_both : (a b : Area) → is_open 0 a.bytes ≡ true → is_open 0 b.bytes ≡ true → open_areas a b ≡ in_order a b
+pub open_both : (a b : Area) → is_open 0 a.bytes ≡ true → is_open 0 b.bytes ≡ true → open_areas a b ≡ in_order a b
 unfolding open_areas
 open_both a b first second = rw (first, second) refl
 
 -- an open area of the disk: it has these entries, and its numbers are below the limit
-record IsOpen (volume : ℕ) (area : Area) (a : OpenArea) (es : List (List ℕ)) : Type 0 where
-  is : IsArea volume area.bytes a es
-  few : a.last < max_number
+pub record IsOpen (volume : ℕ) (area : Area) (a : OpenArea) (es : List (List ℕ)) : Type 0 where
+  pub is : IsArea volume area.bytes a es
+  pub few : a.last < max_number
 
 -- the first of two is the older, where the second goes on from it
-first_is_older : (volume : ℕ) (a b : Area) (x y : OpenArea) (es fs : List (List ℕ)) → IsOpen volume a x es → IsOpen volume b y fs → y.base ≡ x.last → second_is_older a b ≡ false
+pub first_is_older : (volume : ℕ) (a b : Area) (x y : OpenArea) (es fs : List (List ℕ)) → IsOpen volume a x es → IsOpen volume b y fs → y.base ≡ x.last → second_is_older a b ≡ false
 first_is_older volume a b x y es fs first second goes_on =
     let low_a : base_of a ≡ x.base = first.is.base in
     let low_b : base_of b ≡ y.base = second.is.base in
@@ -142,12 +142,12 @@ first_is_older volume a b x y es fs first second goes_on =
     (cases_eq (base_of a) (base_of b))
 
 -- The second of two is the older, where the first goes on from it; or neither has entries.
-record HaveNone (a b : Area) (es fs : List (List ℕ)) : Type 0 where
-  first_read : second_is_older a b ≡ false
-  first_none : es ≡ []
-  second_none : fs ≡ []
+pub record HaveNone (a b : Area) (es fs : List (List ℕ)) : Type 0 where
+  pub first_read : second_is_older a b ≡ false
+  pub first_none : es ≡ []
+  pub second_none : fs ≡ []
 
-second_is_older_if : (volume : ℕ) (a b : Area) (x y : OpenArea) (es fs : List (List ℕ)) → IsOpen volume a x es → IsOpen volume b y fs → x.base ≡ y.last
+pub second_is_older_if : (volume : ℕ) (a b : Area) (x y : OpenArea) (es fs : List (List ℕ)) → IsOpen volume a x es → IsOpen volume b y fs → x.base ≡ y.last
     → (second_is_older a b ≡ true) ⊎ HaveNone a b es fs
 second_is_older_if volume a b x y es fs first second goes_on =
     let low_a : base_of a ≡ x.base = first.is.base in
@@ -214,11 +214,11 @@ both_right is_entry [] fs all = all
 both_right is_entry (e ∷ es) fs all = both_right is_entry es fs all.1
 
 -- an area that is known is one of the disk's two
-in_first : (volume size : ℕ) (image : List ℕ) (a : OpenArea) (es : List (List ℕ)) → IsArea volume (bytes_at image a.start size) a es → IsOpenArea size a → a.start ≡ 0
+pub in_first : (volume size : ℕ) (image : List ℕ) (a : OpenArea) (es : List (List ℕ)) → IsArea volume (bytes_at image a.start size) a es → IsOpenArea size a → a.start ≡ 0
     → IsOpen volume (first_area size image) a es
 in_first volume size image a es is opens at = record { is = subst (λ (s : ℕ). IsArea volume (take size (drop s image)) a es) at is; few = opens.number }
 
-in_second : (volume size : ℕ) (image : List ℕ) (a : OpenArea) (es : List (List ℕ)) → IsArea volume (bytes_at image a.start size) a es → IsOpenArea size a → a.start ≡ size
+pub in_second : (volume size : ℕ) (image : List ℕ) (a : OpenArea) (es : List (List ℕ)) → IsArea volume (bytes_at image a.start size) a es → IsOpenArea size a → a.start ≡ size
     → IsOpen volume (second_area size image) a es
 in_second volume size image a es is opens at = record { is = subst (λ (s : ℕ). IsArea volume (take size (drop s image)) a es) at is; few = opens.number }
 

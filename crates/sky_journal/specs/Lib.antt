@@ -1,4 +1,5 @@
 pub mod AreasRead
+pub mod EntryPlaces
 pub mod Faults
 pub mod Journal
 pub mod Laid

@@ -1,11 +1,12 @@
 //! Going through the entries that are on the disk.
 
-ghost use Rattle.std.specs.Prelude.{◌≡◌, ◌+◌, ◌<◌, ◌≤◌, ◌^◌, ℕ, List, Some, true, IfNone, IfOk, IfSome, IsErrOf, IsSomeAnd, IsTrue, MatchOption, OnErr, is_err};
+ghost use Rattle.std.specs.Prelude.{◌≡◌, ◌+◌, ◌<◌, ◌≤◌, ◌^◌, ℕ, List, Some, true, IfNone, IfOk, IfSome, IsErrOf, IsSomeAnd, IsTrue, MatchOption, OnErr, is_err, map};
 ghost use Rattle.sky_outside.specs.Count.{Counts};
 ghost use Rattle.sky_outside.specs.Moments.{OnlyLooks};
 ghost use Rattle.sky_outside.specs.Told.{WhereTold};
+ghost use Rattle.sky_journal.specs.EntryPlaces.{LieAt, places_of};
 ghost use Rattle.sky_journal.specs.Faults.{is_disk_failure};
-ghost use Rattle.sky_journal.specs.Journal.{entries, IsOpenArea, JournalView, StandsFor};
+ghost use Rattle.sky_journal.specs.Journal.{entries, IsJournal, IsOpenArea, JournalView, StandsFor};
 ghost use Rattle.sky_journal.specs.Looking.{area_in, Shows, Went};
 ghost use Rattle.sky_journal.specs.Place.{GivesNext, IsAhead, IsBehindEntry, IsInBatch, IsPast, Left, LeftAt, LeftIn, LeftInBatch, position_of, start_in};
 ghost use Rattle.sky_journal.specs.declared.open_area.OpenArea.{OpenArea};
@@ -58,9 +59,9 @@ fn into_batch<D: Disk>(
     requires order { place.at ≤ place.end }
     requires inside { place.end ≤ span.size }
     requires within { span.start + span.size ≤ D.bytes_of disk.old }
-    ensures left { IfOk result (λ found. (image : List ℕ) (a : OpenArea) (list : List (ℕ × List ℕ))
-        → Shows D.Storage disk.old pieces.old image → LeftIn (area_in span image).bytes a place list → place.last < a.last
-        → IsSomeAnd found (LeftInBatch (area_in span image).bytes a place list)) }
+    ensures left { IfOk result (λ found. (image : List ℕ) (a : OpenArea) (list : List (ℕ × List ℕ)) (places : List ℕ)
+        → Shows D.Storage disk.old pieces.old image → LeftIn (area_in span image).bytes a place list places → place.last < a.last
+        → IsSomeAnd found (LeftInBatch (area_in span image).bytes a place list places)) }
     ensures range { IfOk result (λ found. IfSome found (IsInBatch span place)) }
     ensures went { Went D.Storage disk.old pieces.old disk.new pieces.new (is_err result) }
     ensures size { D.bytes_of disk.new ≡ D.bytes_of disk.old }
@@ -104,9 +105,9 @@ fn take_entry<D: Disk>(
     requires some { 0 < place.left }
     requires number { place.last + 1 < 2 ^ 64 }
     requires within { span.start + span.size ≤ D.bytes_of disk.old }
-    ensures given { IfOk result (λ found. (image : List ℕ) (a : OpenArea) (list : List (ℕ × List ℕ))
-        → Shows D.Storage disk.old pieces.old image → LeftIn (area_in span image).bytes a place list
-        → IsSomeAnd found (IsBehindEntry (area_in span image).bytes a place entry.new.items list)) }
+    ensures given { IfOk result (λ found. (image : List ℕ) (a : OpenArea) (list : List (ℕ × List ℕ)) (places : List ℕ)
+        → Shows D.Storage disk.old pieces.old image → LeftIn (area_in span image).bytes a place list places
+        → IsSomeAnd found (IsBehindEntry (area_in span image).bytes a place entry.new.items list places)) }
     ensures none { IfOk result (λ found. IfNone found (entry.new ≡ entry.old)) }
     ensures went { Went D.Storage disk.old pieces.old disk.new pieces.new (is_disk_failure result) }
     ensures size { D.bytes_of disk.new ≡ D.bytes_of disk.old }
@@ -133,9 +134,9 @@ fn entry_behind<D: Disk>(
 ) -> Result<Option<Place>, NextFault>
     requires number { place.last + 1 < 2 ^ 64 }
     requires within { span.start + span.size ≤ D.bytes_of disk.old }
-    ensures given { IfOk result (λ found. (image : List ℕ) (a : OpenArea) (list : List (ℕ × List ℕ)) → D.image disk.old ≡ Some image
-        → LeftIn (area_in span image).bytes a place list → place.last < a.last
-        → IsSomeAnd found (IsBehindEntry (area_in span image).bytes a place entry.new.items list)) }
+    ensures given { IfOk result (λ found. (image : List ℕ) (a : OpenArea) (list : List (ℕ × List ℕ)) (places : List ℕ) → D.image disk.old ≡ Some image
+        → LeftIn (area_in span image).bytes a place list places → place.last < a.last
+        → IsSomeAnd found (IsBehindEntry (area_in span image).bytes a place entry.new.items list places)) }
     ensures none { IfOk result (λ found. IfNone found (entry.new ≡ entry.old)) }
     ensures looks { OnlyLooks D.Storage disk.old disk.new }
     ensures cause { Counts (D.disk_faults disk.old) (D.disk_faults disk.new) (IsTrue (is_disk_failure result)) }
@@ -156,8 +157,8 @@ fn entry_behind<D: Disk>(
 
 /// The place before the first entry of these areas.
 fn first_of(older: Option<OpenArea>, newer: Option<OpenArea>) -> Place
-    ensures { (j : JournalView) (image : List ℕ) (first second : List (List ℕ)) → j.older ≡ older → j.newer ≡ newer
-        → StandsFor j image first second → Left j image result (entries j first second) }
+    ensures { (j : JournalView) (image : List ℕ) (first second : List (List ℕ)) → j.older ≡ older → j.newer ≡ newer → IsJournal j
+        → StandsFor j image first second → Left j image result (entries j first second) (places_of j.size image) }
 {
     match older {
         Some(area) => start_of(false, area),
@@ -177,8 +178,8 @@ fn first_of(older: Option<OpenArea>, newer: Option<OpenArea>) -> Place
 /// The newer area and the place in it, where an entry is left behind the place.
 fn newer_ahead(newer: Option<OpenArea>, place: Place) -> Option<(OpenArea, Place)>
     requires { place.newer ≡ true }
-    ensures ahead { (j : JournalView) (image : List ℕ) (list : List (ℕ × List ℕ)) → j.newer ≡ newer
-        → Left j image place list → IsAhead j image list result }
+    ensures ahead { (j : JournalView) (image : List ℕ) (list : List (ℕ × List ℕ)) (places : List ℕ) → j.newer ≡ newer
+        → Left j image place list places → IsAhead j image list places result }
     ensures last { IfSome result (λ x. x.1.last < x.0.last) }
     ensures known { (size : ℕ) → IfSome newer (IsOpenArea size) → IfSome result (λ x. IsOpenArea size x.0) }
 {
@@ -196,8 +197,8 @@ fn newer_ahead(newer: Option<OpenArea>, place: Place) -> Option<(OpenArea, Place
 
 /// The newer area and the place before its first batch, where it has an entry.
 fn newer_start(newer: Option<OpenArea>) -> Option<(OpenArea, Place)>
-    ensures ahead { (j : JournalView) (image : List ℕ) (list : List (ℕ × List ℕ)) → j.newer ≡ newer
-        → IsPast j image list → IsAhead j image list result }
+    ensures ahead { (j : JournalView) (image : List ℕ) (list : List (ℕ × List ℕ)) (places : List ℕ) → j.newer ≡ newer
+        → IsPast j image list places → IsAhead j image list places result }
     ensures last { IfSome result (λ x. x.1.last < x.0.last) }
     ensures known { (size : ℕ) → IfSome newer (IsOpenArea size) → IfSome result (λ x. IsOpenArea size x.0) }
 {
@@ -219,8 +220,8 @@ fn area_ahead(
     newer: Option<OpenArea>,
     place: Place,
 ) -> Option<(OpenArea, Place)>
-    ensures ahead { (j : JournalView) (image : List ℕ) (list : List (ℕ × List ℕ)) → j.older ≡ older → j.newer ≡ newer
-        → Left j image place list → IsAhead j image list result }
+    ensures ahead { (j : JournalView) (image : List ℕ) (list : List (ℕ × List ℕ)) (places : List ℕ) → j.older ≡ older → j.newer ≡ newer
+        → Left j image place list places → IsAhead j image list places result }
     ensures last { IfSome result (λ x. x.1.last < x.0.last) }
     ensures known { (size : ℕ) → IfSome older (IsOpenArea size) → IfSome newer (IsOpenArea size)
         → IfSome result (λ x. IsOpenArea size x.0) }
@@ -261,8 +262,10 @@ impl Journal {
 
     /// The place before the first entry on the disk.
     pub fn first(&self) -> Place
-        ensures { (image : List ℕ) (older newer : List (List ℕ)) → StandsFor self.now image older newer
-            → Left self.now image result (entries self.now older newer) }
+        ensures left { (image : List ℕ) (older newer : List (List ℕ)) → StandsFor self.now image older newer
+            → Left self.now image result (entries self.now older newer) (places_of self.now.size image) }
+        ensures lie { (image : List ℕ) (older newer : List (List ℕ)) → StandsFor self.now image older newer
+            → LieAt image (map (λ e. e.1) (entries self.now older newer)) (places_of self.now.size image) }
     {
         first_of(self.older, self.newer)
     }
@@ -278,8 +281,8 @@ impl Journal {
         entry: &mut Vec<u8>,
     ) -> Result<Option<u64>, NextFault>
         requires { D.bytes_of disk.old ≡ self.now.disk }
-        ensures next { IfOk result (λ found. WhereTold (D.image disk.old) (λ image. (list : List (ℕ × List ℕ))
-            → Left self.now image place.old list → GivesNext self.now image found entry.new.items place.new list)) }
+        ensures next { IfOk result (λ found. WhereTold (D.image disk.old) (λ image. (list : List (ℕ × List ℕ)) (places : List ℕ)
+            → Left self.now image place.old list places → GivesNext self.now image found entry.new.items place.new list places)) }
         ensures none { IfOk result (λ found. IfNone found (place.new ≡ place.old)) }
         ensures buffer { IfOk result (λ found. IfNone found (entry.new ≡ entry.old)) }
         ensures err { OnErr result (place.new ≡ place.old) }

@@ -6,7 +6,7 @@ use Rattle.sky_outside.specs.Told.{WhereTold}
 use Rattle.sky_outside.specs.declared.storage.Storage.{Ghosts}
 use Rattle.sky_outside.proofs.ToldLaws.{WhereTold-at, WhereTold-from}
 use Rattle.sky_journal.specs.Journal.{JournalView, entries}
-use Rattle.sky_sound.specs.Entries.{entries_above, journal_of}
+use Rattle.sky_sound.specs.Entries.{journal_of}
 use Rattle.sky_recover.specs.Replaying.{FailsAt}
 use Rattle.sky_recover.specs.Settling.{IsRead}
 
@@ -49,14 +49,15 @@ module _ {S : Type 0} (g : Ghosts S) (v a : ℕ) (s t : S) (looks : OnlyLooks g 
 
     -- one of its changes fails
     pub fails_there : (at : ℕ)
-        → WhereTold (g.image u) (λ image. (list : List (ℕ × List ℕ)) → journal_of j.volume j.size 0 image ≡ Ok list → FailsAt (empty_tree v) (entries_above 0 list) image at)
-        → WhereTold (g.image s) (λ image. (list : List (ℕ × List ℕ)) × (journal_of v a 0 image ≡ Ok list) × FailsAt (empty_tree v) (entries_above 0 list) image at)
+        → WhereTold (g.image u) (λ image. (list : List (ℕ × List ℕ)) → journal_of j.volume j.size 0 image ≡ Ok list → FailsAt (empty_tree v) j.size 0 list image at)
+        → WhereTold (g.image s) (λ image. (list : List (ℕ × List ℕ)) × (journal_of v a 0 image ≡ Ok list) × FailsAt (empty_tree v) a 0 list image at)
     fails_there at fails =
-        WhereTold-from (g.image s) (λ image. (list : List (ℕ × List ℕ)) × (journal_of v a 0 image ≡ Ok list) × FailsAt (empty_tree v) (entries_above 0 list) image at)
+        WhereTold-from (g.image s) (λ image. (list : List (ℕ × List ℕ)) × (journal_of v a 0 image ≡ Ok list) × FailsAt (empty_tree v) a 0 list image at)
         (λ image told.
         let reads = read_at image told in
         let list : List (ℕ × List ℕ) = entries j reads.older reads.newer in (
           list,
           says image reads,
-          WhereTold-at (g.image u) (λ x. (l : List (ℕ × List ℕ)) → journal_of j.volume j.size 0 x ≡ Ok l → FailsAt (empty_tree v) (entries_above 0 l) x at) image (same ∙ looks.image ∙ told) fails list reads.says,
+          subst (λ (n : ℕ). FailsAt (empty_tree v) n 0 list image at) size_is
+              (WhereTold-at (g.image u) (λ x. (l : List (ℕ × List ℕ)) → journal_of j.volume j.size 0 x ≡ Ok l → FailsAt (empty_tree v) j.size 0 l x at) image (same ∙ looks.image ∙ told) fails list reads.says),
         ))

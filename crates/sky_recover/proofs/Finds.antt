@@ -1,5 +1,5 @@
 -- What recovery finds on a site of which the entries above covers and the last checkpoint are as they were. Crates above cite this.
-use Rattle.std.proofs.Common.{◌≡◌, ℕ, List, Ok, refl, sym, ap, ◌∙◌}
+use Rattle.std.proofs.Common.{◌≡◌, ℕ, List, Ok, refl, sym, ap, ◌∙◌, arith}
 use Rattle.sky_outside.specs.CloudMap.{CloudMap}
 use Rattle.sky_nfs.specs.History.{History, tree_after_changes}
 use Rattle.sky_journal.specs.Text.{Read}
@@ -8,13 +8,13 @@ use Rattle.sky_sound.specs.Cloud.{cloud_tree}
 use Rattle.sky_sound.specs.Entries.{changes_in, entries_above, journal_of, last_number}
 use Rattle.sky_sound.specs.Recovery.{Recovered, recovered, history_of, IsSound, FindsSame}
 use Rattle.sky_sound.proofs.Above.{recovered_is, history_is, history_from_entries}
-use Rattle.sky_sound.proofs.Claims.{checkpoint_in-claimed}
+use Rattle.sky_sound.proofs.Claims.{checkpoint_in-claimed, epoch_kept-claimed}
 use Rattle.sky_recover.specs.Settling.{KeepsAbove}
 
 module _ (volume size : ℕ) (image : List ℕ) (objects : CloudMap) where
   -- a sound site is found as it is
   pub finds_itself : IsSound volume size image objects → FindsSame volume size image objects image objects
-  finds_itself is = record { sound = is; same = refl }
+  finds_itself is = record { sound = is; same = refl; epoch = omega arith }
 
   -- the entries that a sound site says
   pub sound_entries : IsSound volume size image objects → (list : List (ℕ × List ℕ)) × (journal_of volume size 0 image ≡ Ok list)
@@ -49,4 +49,5 @@ module _ (volume size : ℕ) (image : List ℕ) (objects : CloudMap) where
       legal = is.legal;
     };
     same = recovered_is_by left (claimed objects) keeps.read keeps.says ∙ ap found_by keeps.above ∙ sym (recovered_is_by image objects list says);
+    epoch = epoch_kept-claimed objects;
   }

@@ -7,6 +7,7 @@ pub mod Keeps
 pub mod Lists
 pub mod Lying
 pub mod Moments
+pub mod OneWay
 pub mod Outcome
 pub mod Redone
 pub mod Refused

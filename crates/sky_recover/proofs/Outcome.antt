@@ -1,6 +1,6 @@
 -- What an opening found and left, from what its steps gave. Crates above cite this.
-use Rattle.std.specs.Prelude.{nat_lt}
-use Rattle.std.proofs.Common.{◌≡◌, ℕ, ◌+◌, ◌<◌, ◌≤◌, List, length, Some, Ok, refl, sym, ap, ◌∙◌, arith}
+use Rattle.std.specs.Prelude.{nat_lt, IsSome}
+use Rattle.std.proofs.Common.{◌≡◌, ℕ, ◌+◌, List, length, Some, Ok, refl, sym, ap, subst, ◌∙◌, arith}
 use Rattle.sky_calls.specs.Durable.{DurableView}
 use Rattle.sky_nfs.specs.History.{History}
 use Rattle.sky_nfs.specs.Tree.{empty_tree}
@@ -16,7 +16,8 @@ use Rattle.sky_sound.specs.Cloud.{epoch_after}
 use Rattle.sky_sound.specs.Entries.{changes_in, entries_above, journal_of}
 use Rattle.sky_sound.specs.Recovery.{history_of}
 use Rattle.sky_sound.proofs.Above.{history_is}
-use Rattle.sky_recover.specs.Opening.{BeginsAt, IsFoundOn, IsOpened, IsOpenOn, KeepsAreas, found_by}
+use Rattle.sky_sound.proofs.Settled.{settled_area, settled_stays}
+use Rattle.sky_recover.specs.Opening.{BeginsAt, IsFoundOn, IsLeftOf, IsOpened, IsOpenOn, found_by}
 use Rattle.sky_recover.specs.Refusals.{IsClaimable}
 use Rattle.sky_recover.specs.Settling.{IsRead}
 use Rattle.sky_recover.specs.Steps.{IsContinued}
@@ -51,8 +52,10 @@ module _ {S : Type 0} (g : Ghosts S) (v a : ℕ) (s u w : S) (j : JournalView) (
     legal = record { valid = valid; done = went.done };
     storable = went.storable;
     volume = refl;
-    journal_volume = went.settled.volume ∙ volume_is;
-    journal_size = went.settled.size ∙ size_is;
+    journal_volume = ap (λ (x : JournalView). x.volume) went.settled ∙ volume_is;
+    journal_size = ap (λ (x : JournalView). x.size) went.settled ∙ size_is;
+    pending = ap (λ (x : JournalView). x.pending) went.settled;
+    up = ap (λ (x : JournalView). x.down) went.settled;
     history = WhereBothTold-from g s (λ image objects. history_of v a image objects ≡ Ok history) (λ image objects told held. said image objects told);
     cloud = WhereTold-from (g.objects s) (BeginsAt v (found_by o history d.journal))
         (λ objects held. record {
@@ -61,17 +64,8 @@ module _ {S : Type 0} (g : Ghosts S) (v a : ℕ) (s u w : S) (j : JournalView) (
           tree = refl;
           epoch = WhereTold-at (g.objects s) (λ x. o.epoch ≡ epoch_after x) objects held epoch_is;
         });
-    areas = WhereTold-from (g.image s) (KeepsAreas v a (found_by o history d.journal))
-        (λ image told. let reads = read_at image told in record {
-          read = j;
-          is = is_j;
-          volume_is = volume_is;
-          size_is = size_is;
-          older = reads.older;
-          newer = reads.newer;
-          stands = reads.stands;
-          same = went.settled.kept;
-        });
+    journal = WhereTold-from (g.image s) (IsLeftOf v a (found_by o history d.journal))
+        (λ image told. record { read = j; is = record { is = is_j; volume_is = volume_is; size_is = size_is; says = read_at image told }; left = went.settled });
   }
 
   as_long : number_behind d.journal.newer 0 ≡ 0 + length went.changes
@@ -81,14 +75,13 @@ module _ {S : Type 0} (g : Ghosts S) (v a : ℕ) (s u w : S) (j : JournalView) (
   unfolding history
   opens is_d = record {
     is = is_d;
-    area = went.settled.area;
-    up = went.settled.down;
-    pending = went.settled.pending;
+    area = subst (λ (x : JournalView). IsSome x.newer) (sym went.settled) (settled_area 0 j);
+    up = ap (λ (x : JournalView). x.down) went.settled;
+    pending = ap (λ (x : JournalView). x.pending) went.settled;
     stored = as_long;
     stands = went.stands;
     has = went.has;
-    begun = λ (short : 0 + length went.changes ≤ 0). went.settled.begun (omega (arith, short, as_long, went.settled.last));
-    uncovered = λ (long : 0 < 0 + length went.changes). went.settled.uncovered (omega (arith, long, as_long, went.settled.last));
+    stays = settled_stays 0 j d.journal went.settled;
   }
 
   pub opened : IsJournal d.journal → IsValidTree (empty_tree v) → WhereTold (g.objects s) (λ objects. o.epoch ≡ epoch_after objects) → WhereTold (g.objects s) IsClaimable

@@ -50,10 +50,11 @@ done_at t [] change ys done = first_true (is_done t change) (are_done (tree_afte
 done_at t (x ∷ xs) change ys done = done_at (tree_after_change t x) xs change ys (second_true (is_done t x) (are_done (tree_after_change t x) (xs ++ change ∷ ys)) done)
 
 -- where each change is answered OK, none fails
-none_fails : (start : Tree) (list : List (ℕ × List ℕ)) (image : List ℕ) (at : ℕ) → IsTrue (are_done start (changes_in list)) → FailsAt start list image at → ⊥
-none_fails start list image at done fails =
+none_fails : (start : Tree) (size covers : ℕ) (list : List (ℕ × List ℕ)) (image : List ℕ) (at : ℕ) → IsTrue (are_done start (changes_in (entries_above covers list)))
+    → FailsAt start size covers list image at → ⊥
+none_fails start size covers list image at done fails =
     let change : Change = fails.refused.change in
-    let whole : changes_in list ≡ changes_in fails.before ++ change ∷ changes_in fails.behind =
+    let whole : changes_in (entries_above covers list) ≡ changes_in fails.before ++ change ∷ changes_in fails.behind =
     ap changes_in fails.parts ∙ changes_in-append fails.before (fails.entry ∷ fails.behind)
     ∙ ap (λ (o : Option Change). changes_in fails.before ++ with_change o (changes_in fails.behind)) fails.refused.change_is in
     let here : is_done (tree_after_changes start (changes_in fails.before)) change ≡ true =
@@ -79,8 +80,8 @@ module _ (volume size : ℕ) (image : List ℕ) (objects : CloudMap) (is : IsSou
   sound_unrefused T fault.Memory by = tt
   sound_unrefused T (fault.Foreign at) by =
       ⊎_elim (λ (e : journal_of volume size 0 image ≡ Err at). not_foreign at e)
-      (λ (x : (list : List (ℕ × List ℕ)) × (journal_of volume size 0 image ≡ Ok list) × FailsAt (empty_tree volume) (entries_above 0 list) image at).
-      none_fails (empty_tree volume) (entries_above 0 x.0) image at (sound_done x.0 x.1) x.2) by.1
+      (λ (x : (list : List (ℕ × List ℕ)) × (journal_of volume size 0 image ≡ Ok list) × FailsAt (empty_tree volume) size 0 list image at).
+      none_fails (empty_tree volume) size 0 x.0 image at (sound_done x.0 x.1) x.2) by.1
   sound_unrefused T (fault.Lost (Missing name)) by = by
   sound_unrefused T (fault.Lost (Damaged name damage)) by = let none = is.no_checkpoint in let some = by.0 in absurd cc
   sound_unrefused T fault.Worn by = tt
@@ -110,7 +111,7 @@ module _ {S : Type 0} (g : Ghosts S) (volume size : ℕ) (s : S) where
     -- by a change
     pub refused_redone : (T : Type 0) (why : OpenFault) → IsOfJournal (failed T why)
         → ((at : ℕ) → IsErrOf (failed T why) (fault.Foreign at)
-        → WhereTold (g.image s) (λ image. (list : List (ℕ × List ℕ)) × (journal_of volume size 0 image ≡ Ok list) × FailsAt (empty_tree volume) (entries_above 0 list) image at))
+        → WhereTold (g.image s) (λ image. (list : List (ℕ × List ℕ)) × (journal_of volume size 0 image ≡ Ok list) × FailsAt (empty_tree volume) size 0 list image at))
         → WhereBothTold g s (IsRefusedBy volume size why)
     refused_redone T fault.DiskFault of foreign = anyway fault.DiskFault (λ image objects. tt)
     refused_redone T fault.CloudFault of foreign = absurd of
@@ -119,7 +120,7 @@ module _ {S : Type 0} (g : Ghosts S) (volume size : ℕ) (s : S) where
         WhereBothTold-from g s (IsRefusedBy volume size (fault.Foreign at))
         (λ image objects told held. (
           (none_at objects held).no_checkpoint,
-          inr (WhereTold-at (g.image s) (λ x. (list : List (ℕ × List ℕ)) × (journal_of volume size 0 x ≡ Ok list) × FailsAt (empty_tree volume) (entries_above 0 list) x at) image told (foreign at refl)),
+          inr (WhereTold-at (g.image s) (λ x. (list : List (ℕ × List ℕ)) × (journal_of volume size 0 x ≡ Ok list) × FailsAt (empty_tree volume) size 0 list x at) image told (foreign at refl)),
         ))
     refused_redone T (fault.Lost lost) of foreign = absurd of
     refused_redone T fault.Worn of foreign = absurd of

@@ -1,17 +1,20 @@
 -- Doing the changes of a journal again, one after the other.
-use Rattle.std.specs.Prelude.{◌&&◌, IsTrue}
-use Rattle.std.specs.List.{AllByRecursion}
+use Rattle.std.specs.Prelude.{◌&&◌, IsTrue, nat_lt, if◌then◌else◌}
+use Rattle.std.specs.List.{AllByRecursion, slice_get}
 use Rattle.std.proofs.Common.{◌≡◌, ℕ, ◌+◌, ◌<◌, ◌≤◌, Bool, true, false, List, [], ◌∷◌, ◌++◌, length, map, Option, Some, None, Ok, refl, sym, ap, ◌∙◌, subst, arith, append_assoc, length-append}
+use Rattle.std.proofs.lemmas.Bool.{lt-ltb}
 use Rattle.std.proofs.lemmas.List.{append-nil, length_push, map-append}
 use Rattle.sky_nfs.specs.History.{are_done, is_done, tree_after_change, tree_after_changes}
 use Rattle.sky_nfs.specs.Tree.{Tree}
 use Rattle.sky_nfs.specs.declared.call.Change.{Change}
 use Rattle.sky_entry.specs.Entry.{entry_bytes}
+use Rattle.sky_outside.specs.Image.{bytes_at}
 use Rattle.sky_outside.specs.Moments.{OnlyLooks}
 use Rattle.sky_outside.specs.Told.{WhereTold}
 use Rattle.sky_outside.specs.declared.storage.Storage.{Ghosts}
 use Rattle.sky_outside.proofs.MomentLaws.{OnlyLooks-none, OnlyLooks-then}
 use Rattle.sky_outside.proofs.ToldLaws.{WhereTold-at, WhereTold-from}
+use Rattle.sky_journal.specs.EntryPlaces.{LieAt, places_of}
 use Rattle.sky_journal.specs.Journal.{JournalView, AreInOrder, IsJournal, StandsFor, base_in, entries, number_behind, numbered_in}
 use Rattle.sky_journal.specs.Laid.{IsLaid}
 use Rattle.sky_journal.specs.Place.{Left}
@@ -19,10 +22,11 @@ use Rattle.sky_journal.specs.Text.{numbered}
 use Rattle.sky_journal.specs.declared.open_area.OpenArea.{OpenArea}
 use Rattle.sky_journal.specs.declared.place.Place.{Place}
 use Rattle.sky_journal.proofs.AreaWords.{numbered-length}
+use Rattle.sky_journal.proofs.EntryPlaces.{places_lie}
 use Rattle.sky_sound.specs.Entries.{AreOfChanges, IsStorable, change_of, changes_in, entries_above, is_of_change, journal_of, with_change}
 use Rattle.sky_sound.proofs.Above.{above_yes}
 use Rattle.sky_sound.proofs.Texts.{text_of}
-use Rattle.sky_recover.specs.Replaying.{DoesNext, FailsAt, FailsNext, IsRedone, IsReplayed, IsRefused}
+use Rattle.sky_recover.specs.Replaying.{DoesNext, FailsAt, FailsNext, IsRedone, IsReplayed, IsRefused, LiesAt, places_above}
 use Rattle.sky_recover.specs.Settling.{IsRead}
 use Rattle.sky_recover.proofs.Covered.{based, list_is, of_changes_second, read_of_changes}
 
@@ -101,6 +105,59 @@ all_numbered volume size image list fs says bytes =
     let low : text.base ≡ 0 = omega (arith, text.based) in
     all_above volume size image list says ∙ numbers_same 0 text.entries fs list (text.listed ∙ ap (λ (n : ℕ). numbered n text.entries) low) bytes
 
+-- ---- their places
+
+-- all of them are places of entries above 0
+above_places : (image : List ℕ) (base : ℕ) (es : List (List ℕ)) (places : List ℕ) → LieAt image es places → places_above 0 (numbered base es) places ≡ places
+unfolding LieAt numbered
+above_places image base [] [] lie = refl
+above_places image base [] (p ∷ ps) lie = absurd lie
+above_places image base (e ∷ es) [] lie = absurd lie
+above_places image base (e ∷ es) (p ∷ ps) lie =
+    let above : nat_lt 0 (base + 1) ≡ true = lt-ltb _ _ (omega arith) in
+    rw above (ap (λ (l : List ℕ). p ∷ l) (above_places image (base + 1) es ps lie.1))
+
+-- the place of an entry behind others, of which there are as many places, is the one behind theirs
+place_behind : (xs : List ℕ) (x : ℕ) (ys : List ℕ) → slice_get (xs ++ x ∷ ys) (length xs) ≡ Some x
+place_behind [] x ys = refl
+place_behind (y ∷ xs) x ys = place_behind xs x ys
+
+-- and the entry lies there
+lies_behind : (image : List ℕ) (es fs : List (ℕ × List ℕ)) (e : ℕ × List ℕ) (ps qs : List ℕ) (p : ℕ) → length ps ≡ length es
+    → LieAt image (map (λ (e : ℕ × List ℕ). e.1) (es ++ e ∷ fs)) (ps ++ p ∷ qs) → LiesAt image e.1 p
+unfolding LieAt
+lies_behind image [] fs e [] qs p count lie = lie.0
+lies_behind image [] fs e (q ∷ ps) qs p count lie = absurd (omega (arith, count))
+lies_behind image (x ∷ es) fs e [] qs p count lie = absurd (omega (arith, count))
+lies_behind image (x ∷ es) fs e (q ∷ ps) qs p count lie = lies_behind image es fs e ps qs p (omega (arith, count)) lie.1
+
+module _ (volume size : ℕ) (image : List ℕ) (list : List (ℕ × List ℕ)) (says : journal_of volume size 0 image ≡ Ok list) where
+  lie_all : LieAt image (map (λ (e : ℕ × List ℕ). e.1) list) (places_of size image)
+  lie_all = places_lie is_of_change volume size 0 image list says
+
+  all_places : places_above 0 list (places_of size image) ≡ places_of size image
+  all_places =
+      let text = text_of is_of_change volume size 0 image list says in
+      let bytes : map (λ (e : ℕ × List ℕ). e.1) list ≡ text.entries = ap (λ (l : List (ℕ × List ℕ)). map (λ (e : ℕ × List ℕ). e.1) l) text.listed ∙ bytes_numbered text.base text.entries in
+      ap (λ (l : List (ℕ × List ℕ)). places_above 0 l (places_of size image)) text.listed
+      ∙ above_places image text.base text.entries (places_of size image) (subst (λ (l : List (List ℕ)). LieAt image l (places_of size image)) bytes lie_all)
+
+  -- where the entries and the places are parted at an entry
+  module _ (before : List (ℕ × List ℕ)) (e : ℕ × List ℕ) (behind : List (ℕ × List ℕ)) (first : List ℕ) (at : ℕ) (later : List ℕ) (parts : list ≡ before ++ e ∷ behind)
+      (placed : places_of size image ≡ first ++ at ∷ later) (count : length first ≡ length before) where
+    pub place_there : slice_get (places_above 0 list (places_of size image)) (length before) ≡ Some at
+    place_there =
+        ap (λ (l : List ℕ). slice_get l (length before)) (all_places ∙ placed) ∙ ap (λ (n : ℕ). slice_get (first ++ at ∷ later) n) (sym count) ∙ place_behind first at later
+
+    pub lies_there : LiesAt image e.1 at
+    lies_there =
+        let split : LieAt image (map (λ (e : ℕ × List ℕ). e.1) (before ++ e ∷ behind)) (first ++ at ∷ later) =
+        subst (λ (l : List ℕ). LieAt image (map (λ (e : ℕ × List ℕ). e.1) (before ++ e ∷ behind)) l) placed
+        (subst (λ (l : List (ℕ × List ℕ)). LieAt image (map (λ (e : ℕ × List ℕ). e.1) l) (places_of size image)) parts lie_all) in
+        lies_behind image before behind e first later at count split
+
+-- ---- the count
+
 -- there are as many as the last number says
 counted_in : (volume size : ℕ) (image : List ℕ) (o n : Option OpenArea) (older newer : List (List ℕ)) → AreInOrder size o n → IsLaid volume size image o older → IsLaid volume size image n newer
     → base_in o n ≤ 0 → length (numbered_in o older ++ numbered_in n newer) ≡ number_behind n 0
@@ -122,7 +179,11 @@ pub record IsParted (j : JournalView) (image : List ℕ) (place : Place) (change
   pub before : List (ℕ × List ℕ)
   pub behind : List (ℕ × List ℕ)
   pub parts : list ≡ before ++ behind
-  pub left : Left j image place behind
+  pub first_places : List ℕ
+  pub places : List ℕ
+  pub placed : places_of j.size image ≡ first_places ++ places
+  pub as_many : length first_places ≡ length before
+  pub left : Left j image place behind places
   pub changes_are : changes ≡ changes_in before
   pub encoded : map (λ (e : ℕ × List ℕ). e.1) before ≡ map entry_bytes changes
   pub count : length before ≡ length changes
@@ -155,7 +216,7 @@ further (e ∷ rest) some = (e, rest, refl)
 module _ {S : Type 0} (g : Ghosts S) (j : JournalView) (s : S) (start : Tree) where
   -- at first
   pub under_way : (place : Place) → WhereTold (g.image s) (IsRead j 0)
-      → ((image : List ℕ) (older newer : List (List ℕ)) → StandsFor j image older newer → Left j image place (entries j older newer)) → IsUnderWay g j s s start start place 0
+      → ((image : List ℕ) (older newer : List (List ℕ)) → StandsFor j image older newer → Left j image place (entries j older newer) (places_of j.size image)) → IsUnderWay g j s s start start place 0
   under_way place read first = record {
     looks = OnlyLooks-none g s;
     quiet = refl;
@@ -171,7 +232,11 @@ module _ {S : Type 0} (g : Ghosts S) (j : JournalView) (s : S) (start : Tree) wh
           before = [];
           behind = list;
           parts = refl;
-          left = subst (λ (l : List (ℕ × List ℕ)). Left j image place l) (list_is j 0 image list r says) (first image r.older r.newer r.stands);
+          first_places = [];
+          places = places_of j.size image;
+          placed = refl;
+          as_many = refl;
+          left = subst (λ (l : List (ℕ × List ℕ)). Left j image place l (places_of j.size image)) (list_is j 0 image list r says) (first image r.older r.newer r.stands);
           changes_are = refl;
           encoded = refl;
           count = refl;
@@ -196,11 +261,15 @@ module _ {S : Type 0} (g : Ghosts S) (j : JournalView) (s : S) (start : Tree) wh
     parted_then next c image list told says more does =
         let p = WhereTold-at (g.image s) (AreParted j place way.changes) image told way.told list says in
         let x = next_of image list told says more p in
-        let d = does x.0 x.1 (subst (λ (l : List (ℕ × List ℕ)). Left j image place l) x.2 p.left) x.3 in record {
+        let d = does x.0 x.1 p.places (subst (λ (l : List (ℕ × List ℕ)). Left j image place l p.places) x.2 p.left) x.3 in record {
           before = p.before ++ x.0 ∷ [];
           behind = x.1;
           parts = p.parts ∙ ap (λ (l : List (ℕ × List ℕ)). p.before ++ l) x.2 ∙ sym (append_assoc p.before (x.0 ∷ []) x.1);
-          left = d.1;
+          first_places = p.first_places ++ d.1 ∷ [];
+          places = d.2;
+          placed = p.placed ∙ ap (λ (l : List ℕ). p.first_places ++ l) d.3 ∙ sym (append_assoc p.first_places (d.1 ∷ []) d.2);
+          as_many = length_push p.first_places d.1 ∙ ap (λ (k : ℕ). k + 1) p.as_many ∙ sym (length_push p.before x.0);
+          left = d.4;
           changes_are = ap (λ (l : List Change). l ++ c ∷ []) p.changes_are ∙ sym (changes_one p.before x.0 c d.0.change_is);
           encoded = map-append (λ (e : ℕ × List ℕ). e.1) p.before (x.0 ∷ []) ∙ ap (λ (l : List (List ℕ)). l ++ x.0.1 ∷ []) p.encoded
               ∙ ap (λ (b : List ℕ). map entry_bytes way.changes ++ b ∷ []) d.0.encoded ∙ sym (map-append entry_bytes way.changes (c ∷ []));
@@ -225,20 +294,24 @@ module _ {S : Type 0} (g : Ghosts S) (j : JournalView) (s : S) (start : Tree) wh
 
     -- the next one fails
     pub fails_there : (at : ℕ) → n < number_behind j.newer 0 → WhereTold (g.image t) (FailsNext j place tree at)
-        → WhereTold (g.image s) (λ image. (list : List (ℕ × List ℕ)) → journal_of j.volume j.size 0 image ≡ Ok list → FailsAt start (entries_above 0 list) image at)
+        → WhereTold (g.image s) (λ image. (list : List (ℕ × List ℕ)) → journal_of j.volume j.size 0 image ≡ Ok list → FailsAt start j.size 0 list image at)
     fails_there at more fails =
-        WhereTold-from (g.image s) (λ image. (list : List (ℕ × List ℕ)) → journal_of j.volume j.size 0 image ≡ Ok list → FailsAt start (entries_above 0 list) image at)
+        WhereTold-from (g.image s) (λ image. (list : List (ℕ × List ℕ)) → journal_of j.volume j.size 0 image ≡ Ok list → FailsAt start j.size 0 list image at)
         (λ image told list says.
         let p = WhereTold-at (g.image s) (AreParted j place way.changes) image told way.told list says in
         let x = next_of image list told says more p in
-        let f = WhereTold-at (g.image t) (FailsNext j place tree at) image (way.looks.image ∙ told) fails x.0 x.1 (subst (λ (l : List (ℕ × List ℕ)). Left j image place l) x.2 p.left) x.3 in record {
+        let left : Left j image place (x.0 ∷ x.1) p.places = subst (λ (l : List (ℕ × List ℕ)). Left j image place l p.places) x.2 p.left in
+        let f = WhereTold-at (g.image t) (FailsNext j place tree at) image (way.looks.image ∙ told) fails x.0 x.1 p.places left x.3 in
+        let parts : list ≡ p.before ++ x.0 ∷ x.1 = p.parts ∙ ap (λ (l : List (ℕ × List ℕ)). p.before ++ l) x.2 in
+        let placed : places_of j.size image ≡ p.first_places ++ at ∷ f.1.0 = p.placed ∙ ap (λ (l : List ℕ). p.first_places ++ l) f.1.1 in record {
           before = p.before;
           entry = x.0;
           behind = x.1;
-          parts = all_above j.volume j.size image list says ∙ p.parts ∙ ap (λ (l : List (ℕ × List ℕ)). p.before ++ l) x.2;
+          parts = all_above j.volume j.size image list says ∙ parts;
           done = subst (λ (l : List Change). IsTrue (are_done start l)) p.changes_are way.done;
           refused = subst (λ (k : Tree). IsRefused k x.0.1) (way.tree_is ∙ ap (λ (l : List Change). tree_after_changes start l) p.changes_are) f.0;
-          lies = f.1;
+          place = place_there j.volume j.size image list says p.before x.0 x.1 p.first_places at f.1.0 parts placed p.as_many;
+          lies = lies_there j.volume j.size image list says p.before x.0 x.1 p.first_places at f.1.0 parts placed p.as_many;
         })
 
     -- all of them were done

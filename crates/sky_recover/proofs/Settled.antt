@@ -1,5 +1,5 @@
 -- Closing areas that have no entry above covers, and opening one behind covers.
-use Rattle.std.specs.Prelude.{IfSome, IsSome}
+use Rattle.std.specs.Prelude.{IfSome}
 use Rattle.std.proofs.Common.{◌≡◌, ◌⊎◌, ⊎_elim, inr, ℕ, ◌<◌, ◌≤◌, false, List, [], ◌++◌, Option, Some, None, Ok, refl, sym, ap, ◌∙◌, subst, arith}
 use Rattle.sky_base.specs.Limits.{max_number}
 use Rattle.sky_outside.specs.Moments.{LeavesOnly, BesideObjects, NothingPending, SameCloud}
@@ -16,7 +16,9 @@ use Rattle.sky_journal.proofs.Reading.{reads}
 use Rattle.sky_journal.proofs.Wiped.{LeavesWiped}
 use Rattle.sky_sound.specs.Entries.{AreOfChanges, journal_of, entries_above}
 use Rattle.sky_sound.proofs.Above.{above_append}
-use Rattle.sky_recover.specs.Settling.{IsRead, IsSettled, KeepsAbove, LeavesAbove, StaysAbove}
+use Rattle.sky_sound.specs.Settled.{settled}
+use Rattle.sky_sound.proofs.Settled.{settled_begins, settled_from, settled_goes_on, unless_goes, unless_stays}
+use Rattle.sky_recover.specs.Settling.{IsRead, KeepsAbove, LeavesAbove, StaysAbove}
 use Rattle.sky_recover.proofs.Covered.{of_changes_first, of_changes_second, area_covered, older_low, base_low, first_low, newer_base, read_of_changes, based, list_is, keeps_of, read_from}
 
 some_same : {A : Type 0} (a b : A) → Some a ≡ Some b → a ≡ b
@@ -44,11 +46,6 @@ both_chain P Q R None (Some y) c p q leads = absurd p
 both_chain P Q R (Some x) None c p q leads = absurd p
 both_chain P Q R (Some x) (Some y) None p q leads = absurd q
 both_chain P Q R (Some x) (Some y) (Some z) p q leads = leads x y z refl p q
-
--- an area is open where there is an entry
-some_area : (covers : ℕ) (o : Option OpenArea) → covers < number_behind o 0 → IsSome o
-some_area covers None lt = absurd (omega (arith, lt))
-some_area covers (Some a) lt = refl
 
 -- ---- closing both areas
 
@@ -153,19 +150,11 @@ module _ {S : Type 0} (g : Ghosts S) (j : JournalView) (covers : ℕ) (is : IsJo
         subst IsJournal (sym m_is)
         (IsJournal-but (after_rotation (wiped j) covers) m.spare j.down (IsJournal-after_rotation (wiped j) covers (IsJournal-wiped j is) number tt refl))
 
-    pub settled_anew : j.down ≡ false → IsSettled covers j m
-    settled_anew up = record {
-      volume = ap (λ (v : JournalView). v.volume) m_is;
-      size = ap (λ (v : JournalView). v.size) m_is;
-      disk = ap (λ (v : JournalView). v.disk) m_is;
-      pending = ap (λ (v : JournalView). v.pending) m_is;
-      down = ap (λ (v : JournalView). v.down) m_is ∙ up;
-      area = subst (λ (v : JournalView). IsSome v.newer) (sym m_is) refl;
-      last = ap (λ (v : JournalView). number_behind v.newer 0) m_is ∙ omega (arith, low);
-      begun = λ le. (ap (λ (v : JournalView). v.older) m_is, ap (λ (v : JournalView). v.newer) m_is);
-      uncovered = λ lt. absurd (omega (arith, lt, low));
-      kept = λ lt more. absurd (omega (arith, lt, low));
-    }
+    pub settled_anew : j.down ≡ false → SameButSpare (settled covers j) m
+    settled_anew up =
+        let same = settled_begins covers j low in
+        settled_from covers j m (ap (λ (v : JournalView). v.volume) m_is) (ap (λ (v : JournalView). v.size) m_is) (ap (λ (v : JournalView). v.disk) m_is)
+        (ap (λ (v : JournalView). v.older) m_is ∙ sym same.0) (ap (λ (v : JournalView). v.newer) m_is ∙ sym same.1) (ap (λ (v : JournalView). v.pending) m_is) (ap (λ (v : JournalView). v.down) m_is ∙ up)
 
     -- it has no entry
     none_new : (first second : List (List ℕ)) → first ≡ [] → second ≡ [] → entries m first second ≡ []
@@ -270,27 +259,15 @@ module _ (j : JournalView) (covers : ℕ) (is : IsJournal j) (low : number_behin
         (λ left which. release_keeps image r list left says which))
 
   module _ (k : JournalView) (releases : SameButSpare (without_older j) k) where
-    -- an older area that is covered is not one that isn't
-    none_or_low : (o : Option OpenArea) → number_behind o 0 ≤ covers → IfSome o (λ a. covers < a.last) → o ≡ None
-    none_or_low None le lt = refl
-    none_or_low (Some a) le lt = absurd (omega (arith, le, lt))
-
     k_journal : IsJournal k
     k_journal = subst IsJournal (sym releases) (IsJournal-but (without_older j) k.spare j.down (IsJournal-without_older j is))
 
-    pub settled_released : covers < number_behind j.newer 0 → j.pending ≡ [] → j.down ≡ false → IsSettled covers j k
-    settled_released above none up = record {
-      volume = ap (λ (v : JournalView). v.volume) releases;
-      size = ap (λ (v : JournalView). v.size) releases;
-      disk = ap (λ (v : JournalView). v.disk) releases;
-      pending = ap (λ (v : JournalView). v.pending) releases ∙ none;
-      down = ap (λ (v : JournalView). v.down) releases ∙ up;
-      area = subst (λ (v : JournalView). IsSome v.newer) (sym releases) (some_area covers j.newer above);
-      last = ap (λ (v : JournalView). number_behind v.newer 0) releases ∙ omega (arith, above);
-      begun = λ le. absurd (omega (arith, le, above));
-      uncovered = λ lt. subst (λ (v : JournalView). IfSome v.older (λ a. covers < a.last)) (sym releases) tt;
-      kept = λ lt more. (ap (λ (v : JournalView). v.older) releases ∙ sym (none_or_low j.older low more), ap (λ (v : JournalView). v.newer) releases);
-    }
+    pub settled_released : covers < number_behind j.newer 0 → j.pending ≡ [] → j.down ≡ false → SameButSpare (settled covers j) k
+    settled_released above none up =
+        let same = settled_goes_on covers j above in
+        settled_from covers j k (ap (λ (v : JournalView). v.volume) releases) (ap (λ (v : JournalView). v.size) releases) (ap (λ (v : JournalView). v.disk) releases)
+        (ap (λ (v : JournalView). v.older) releases ∙ sym (unless_goes covers j.older low) ∙ sym same.0) (ap (λ (v : JournalView). v.newer) releases ∙ sym same.1)
+        (ap (λ (v : JournalView). v.pending) releases ∙ none) (ap (λ (v : JournalView). v.down) releases ∙ up)
 
     module _ {S : Type 0} (g : Ghosts S) (s t : S) (read : WhereTold (g.image s) (IsRead j covers)) where
       read_released : (old new : List ℕ) (r : IsRead j covers old) → StandsFor k new [] r.newer → IsRead k covers new
@@ -317,19 +294,10 @@ module _ (j : JournalView) (covers : ℕ) (is : IsJournal j) (low : number_behin
 
 -- ---- leaving all as it is
 
-pub settled_still : (j : JournalView) (covers : ℕ) → covers < number_behind j.newer 0 → j.pending ≡ [] → j.down ≡ false → IfSome j.older (λ a. covers < a.last) → IsSettled covers j j
-settled_still j covers above none up uncovered = record {
-  volume = refl;
-  size = refl;
-  disk = refl;
-  pending = none;
-  down = up;
-  area = some_area covers j.newer above;
-  last = omega (arith, above);
-  begun = λ le. absurd (omega (arith, le, above));
-  uncovered = λ lt. uncovered;
-  kept = λ lt more. (refl, refl);
-}
+pub settled_still : (j : JournalView) (covers : ℕ) → covers < number_behind j.newer 0 → j.pending ≡ [] → j.down ≡ false → IfSome j.older (λ a. covers < a.last) → SameButSpare (settled covers j) j
+settled_still j covers above none up uncovered =
+    let same = settled_goes_on covers j above in
+    settled_from covers j j refl refl refl (sym (unless_stays covers j.older uncovered) ∙ sym same.0) (sym same.1) none up
 
 module _ {S : Type 0} (g : Ghosts S) (j : JournalView) (covers : ℕ) (s : S) where
   pub stays_still : StaysAbove g s s j covers

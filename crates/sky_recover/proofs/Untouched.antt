@@ -1,6 +1,6 @@
 -- What an opening that was refused left as it was.
 use Rattle.std.specs.Prelude.{IsErrOf}
-use Rattle.std.proofs.Common.{◌≡◌, ℕ, Result, Err, refl, ◌∙◌}
+use Rattle.std.proofs.Common.{◌≡◌, ℕ, refl, ◌∙◌}
 use Rattle.sky_outside.specs.Moments.{OnlyLooks}
 use Rattle.sky_outside.specs.declared.storage.Storage.{Ghosts}
 use Rattle.sky_recover.specs.Faults.{IsOfJournal}

@@ -1,5 +1,5 @@
 -- How an opening is refused by what the cloud lists.
-use Rattle.std.specs.Prelude.{◌≡◌, ℕ, ◌<◌, List, Some, None, Result, Ok, Err}
+use Rattle.std.specs.Prelude.{◌≡◌, ℕ, ◌<◌, List, Some, Result, Ok, Err}
 use Rattle.sky_base.specs.Limits.{max_number}
 use Rattle.sky_base.specs.declared.object.SegName.{SegName}
 use Rattle.sky_base.specs.declared.place.Damage.TheVariants.{Form}
@@ -7,14 +7,14 @@ use Rattle.sky_base.specs.declared.place.Lost.{Lost}
 use Rattle.sky_base.specs.declared.place.Lost.TheVariants.{Damaged, Missing}
 use Rattle.sky_outside.specs.CloudMap.{CloudMap}
 use Rattle.sky_outside.specs.declared.storage.Storage.{Ghosts}
-use Rattle.sky_sound.specs.Cloud.{checkpoint_in, cloud_tree, covers_of, epoch_after}
+use Rattle.sky_sound.specs.Cloud.{HasNoCheckpoint, checkpoint_in, cloud_tree, covers_of, epoch_after}
 use Rattle.sky_recover.specs.Replaying.{IsForeignAt}
 use Rattle.sky_recover.specs.declared.fault.OpenFault.{OpenFault}
 use Rattle.sky_recover.specs.declared.fault.OpenFault.TheVariants as fault
 
 -- an epoch can be claimed: no checkpoint of the proxy is listed, as none is read yet, and an epoch is left
 pub record IsClaimable (objects : CloudMap) : Type 0 where
-  pub no_checkpoint : checkpoint_in objects ≡ None
+  pub no_checkpoint : HasNoCheckpoint objects
   pub epoch_left : epoch_after objects < max_number
 
 -- the last checkpoint of the proxy is listed, and is lost: its first field is not read
@@ -25,7 +25,7 @@ pub record IsLost (objects : CloudMap) (lost : Lost) : Type 0 where
 
 -- no checkpoint of the proxy is listed, and no epoch is left
 pub record IsWorn (objects : CloudMap) : Type 0 where
-  pub no_checkpoint : checkpoint_in objects ≡ None
+  pub no_checkpoint : HasNoCheckpoint objects
   pub no_epoch : epoch_after objects ≡ max_number
 
 -- How an opening ended, by the objects that the cloud held: `Lost` and `Worn` came exactly where this is so, unless the list failed
@@ -46,10 +46,10 @@ IsRefusedBy volume size fault.DiskFault image objects = Unit {0}
 IsRefusedBy volume size fault.CloudFault image objects = Unit {0}
 IsRefusedBy volume size fault.Memory image objects = Unit {0}
 IsRefusedBy volume size (fault.Foreign at) image objects =
-    (checkpoint_in objects ≡ None) × IsForeignAt volume size (covers_of objects) (cloud_tree volume objects) image at
+    HasNoCheckpoint objects × IsForeignAt volume size (covers_of objects) (cloud_tree volume objects) image at
 IsRefusedBy volume size (fault.Lost (Missing name)) image objects = ⊥
 IsRefusedBy volume size (fault.Lost (Damaged name damage)) image objects = (checkpoint_in objects ≡ Some name) × (damage ≡ Form 0)
-IsRefusedBy volume size fault.Worn image objects = (checkpoint_in objects ≡ None) × (epoch_after objects ≡ max_number)
+IsRefusedBy volume size fault.Worn image objects = HasNoCheckpoint objects × (epoch_after objects ≡ max_number)
 
 -- What an opening that was refused left as it was, from s to t: the disk's image where the journal is what was refused, and the cloud's objects too
 -- where the list of the cloud was. The other faults come of the devices and of memory.

@@ -1,6 +1,6 @@
 -- What doing the changes of a journal again leads to.
-use Rattle.std.specs.Prelude.{◌≡◌, ◌⊎◌, ℕ, true, false, IsTrue, List, ◌∷◌, ◌++◌, length, map, Some, Ok, Err}
-use Rattle.std.specs.List.{AllByRecursion}
+use Rattle.std.specs.Prelude.{◌≡◌, ◌⊎◌, ℕ, nat_lt, true, false, IsTrue, List, [], ◌∷◌, ◌++◌, length, map, Some, Ok, Err, if◌then◌else◌}
+use Rattle.std.specs.List.{AllByRecursion, slice_get}
 use Rattle.sky_nfs.specs.History.{are_done, is_done, tree_after_change, tree_after_changes}
 use Rattle.sky_nfs.specs.Tree.{Tree}
 use Rattle.sky_nfs.specs.declared.call.Change.{Change}
@@ -8,6 +8,7 @@ use Rattle.sky_entry.specs.Entry.{entry_bytes}
 use Rattle.sky_outside.specs.Image.{bytes_at}
 use Rattle.sky_outside.specs.Told.{WhereTold}
 use Rattle.sky_outside.specs.declared.storage.Storage.{Ghosts}
+use Rattle.sky_journal.specs.EntryPlaces.{places_of}
 use Rattle.sky_journal.specs.Journal.{JournalView, number_behind}
 use Rattle.sky_journal.specs.Place.{Left}
 use Rattle.sky_journal.specs.Text.{numbered}
@@ -38,33 +39,46 @@ LiesAt image bytes at = bytes_at image at (length bytes) ≡ bytes
 
 -- ---- the next entry of a journal
 
+-- this is the first of some places
+abbrev pub IsFirstOf : List ℕ → ℕ → Type 0
+IsFirstOf places at = (later : List ℕ) × (places ≡ at ∷ later)
+
 -- the change is that of the next entry, where one is left at a place, and behind the entry is another place
 abbrev pub DoesNext : JournalView → Place → Place → Change → List ℕ → Type 0
 DoesNext j place next change image =
-    (e : ℕ × List ℕ) (rest : List (ℕ × List ℕ)) → Left j image place (e ∷ rest) → IsTrue (is_of_change e.1) → IsWhose e.1 change × Left j image next rest
+    (e : ℕ × List ℕ) (rest : List (ℕ × List ℕ)) (places : List ℕ) → Left j image place (e ∷ rest) places → IsTrue (is_of_change e.1)
+    → IsWhose e.1 change × (at : ℕ) × (later : List ℕ) × (places ≡ at ∷ later) × Left j image next rest later
 
--- the next entry, where one is left at a place, is that of a change that is not answered OK, and it lies here
+-- the next entry, where one is left at a place, is that of a change that is not answered OK, and this is the entry's place
 abbrev pub FailsNext : JournalView → Place → Tree → ℕ → List ℕ → Type 0
 FailsNext j place tree at image =
-    (e : ℕ × List ℕ) (rest : List (ℕ × List ℕ)) → Left j image place (e ∷ rest) → IsTrue (is_of_change e.1) → IsRefused tree e.1 × LiesAt image e.1 at
+    (e : ℕ × List ℕ) (rest : List (ℕ × List ℕ)) (places : List ℕ) → Left j image place (e ∷ rest) places → IsTrue (is_of_change e.1) → IsRefused tree e.1 × IsFirstOf places at
 
 -- ---- all of them
 
--- The changes of entries fail at a place: from a tree on each of the first ones is answered OK, and that of the next entry, which lies there, is not.
-pub record FailsAt (start : Tree) (list : List (ℕ × List ℕ)) (image : List ℕ) (at : ℕ) : Type 0 where
+-- the places of those entries that are numbered above this, of entries and the place of each
+abbrev pub places_above : ℕ → List (ℕ × List ℕ) → List ℕ → List ℕ
+places_above covers [] places = []
+places_above covers (e ∷ more) [] = []
+places_above covers (e ∷ more) (p ∷ places) = if nat_lt covers e.0 then p ∷ places_above covers more places else places_above covers more places
+
+-- The changes of those entries of an image that are above covers fail at a place: from a tree on each of the first ones is answered OK, and that of the
+-- next entry is not. Of the places of these entries it is the one behind those of the first ones.
+pub record FailsAt (start : Tree) (size covers : ℕ) (list : List (ℕ × List ℕ)) (image : List ℕ) (at : ℕ) : Type 0 where
   pub before : List (ℕ × List ℕ)
   pub entry : ℕ × List ℕ
   pub behind : List (ℕ × List ℕ)
-  pub parts : list ≡ before ++ entry ∷ behind
+  pub parts : entries_above covers list ≡ before ++ entry ∷ behind
   pub done : IsTrue (are_done start (changes_in before))
   pub refused : IsRefused (tree_after_changes start (changes_in before)) entry.1
+  pub place : slice_get (places_above covers list (places_of size image)) (length before) ≡ Some at
   pub lies : LiesAt image entry.1 at
 
 -- An image is foreign at a place: it is not a journal of the volume there; or it is one, whose entries above covers fail there.
 abbrev pub IsForeignAt : (volume size covers : ℕ) → (start : Tree) → (image : List ℕ) → (at : ℕ) → Type 0
 IsForeignAt volume size covers start image at =
     (journal_of volume size covers image ≡ Err at)
-    ⊎ ((list : List (ℕ × List ℕ)) × (journal_of volume size covers image ≡ Ok list) × FailsAt start (entries_above covers list) image at)
+    ⊎ ((list : List (ℕ × List ℕ)) × (journal_of volume size covers image ≡ Ok list) × FailsAt start size covers list image at)
 
 -- Doing a journal's changes again led from a tree to this one, by changes that were each answered OK: as many as the journal's last number
 -- says. Where the disk tells what it has, they are those of the journal.

@@ -1,9 +1,9 @@
--- What an opening reads of the journal, and how it leaves the journal's areas.
-use Rattle.std.specs.Prelude.{◌≡◌, ℕ, ◌<◌, ◌≤◌, max, false, List, [], None, Some, Ok, IfSome, IsSome}
+-- What an opening reads of the journal, and what stays of it while its areas are settled.
+use Rattle.std.specs.Prelude.{◌≡◌, ℕ, List, Ok}
 use Rattle.sky_outside.specs.Moments.{LeavesOnly, BesideObjects}
 use Rattle.sky_outside.specs.Told.{WhereTold, BothTold}
 use Rattle.sky_outside.specs.declared.storage.Storage.{Ghosts}
-use Rattle.sky_journal.specs.Journal.{JournalView, StandsFor, entries, new_area, number_behind}
+use Rattle.sky_journal.specs.Journal.{JournalView, StandsFor, entries}
 use Rattle.sky_sound.specs.Entries.{journal_of, entries_above}
 
 -- over an image the journal stands for the entries of changes that the image says, where those up to covers are kept elsewhere too
@@ -29,18 +29,3 @@ abbrev pub LeavesAbove : {S : Type 0} → Ghosts S → S → S → JournalView �
 LeavesAbove g s t j covers =
     WhereTold (g.image s) (λ image. (list : List (ℕ × List ℕ)) → journal_of j.volume j.size covers image ≡ Ok list
     → LeavesOnly g s t (BesideObjects g s (KeepsAbove j.volume j.size covers list)))
-
--- A journal is left ready for changes, where the entries up to covers are kept elsewhere too: an area is open. Where no entry is above
--- covers it is the one at the disk's start, empty, and its base is covers. Else no area is open whose entries are all kept elsewhere.
-pub record IsSettled (covers : ℕ) (old new : JournalView) : Type 0 where
-  pub volume : new.volume ≡ old.volume
-  pub size : new.size ≡ old.size
-  pub disk : new.disk ≡ old.disk
-  pub pending : new.pending ≡ []
-  pub down : new.down ≡ false
-  pub area : IsSome new.newer
-  pub last : number_behind new.newer 0 ≡ max covers (number_behind old.newer 0)
-  pub begun : number_behind old.newer 0 ≤ covers → (new.older ≡ None) × (new.newer ≡ Some (new_area 0 covers))
-  pub uncovered : covers < number_behind old.newer 0 → IfSome new.older (λ a. covers < a.last)
-  -- where there is an entry above covers, and the older area has one too, the areas stay
-  pub kept : covers < number_behind old.newer 0 → IfSome old.older (λ a. covers < a.last) → (new.older ≡ old.older) × (new.newer ≡ old.newer)

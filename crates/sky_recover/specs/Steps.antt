@@ -2,7 +2,7 @@
 use Rattle.std.specs.Prelude.{◌≡◌, ◌⊎◌, ℕ, List, length, IsTrue, Ok}
 use Rattle.std.specs.List.{AllByRecursion}
 use Rattle.sky_calls.specs.Durable.{DurableView}
-use Rattle.sky_journal.specs.Journal.{JournalView, StandsOn, number_behind}
+use Rattle.sky_journal.specs.Journal.{JournalView, SameButSpare, StandsOn, number_behind}
 use Rattle.sky_nfs.specs.History.{are_done, tree_after_changes}
 use Rattle.sky_nfs.specs.Tree.{empty_tree}
 use Rattle.sky_nfs.specs.declared.call.Change.{Change}
@@ -11,8 +11,9 @@ use Rattle.sky_outside.specs.Moments.{BesideObjects, LeavesOnly, OfPair}
 use Rattle.sky_outside.specs.Told.{WhereTold}
 use Rattle.sky_outside.specs.declared.storage.Storage.{Ghosts}
 use Rattle.sky_sound.specs.Entries.{IsStorable, changes_in, entries_above, journal_of}
+use Rattle.sky_sound.specs.Settled.{settled}
 use Rattle.sky_recover.specs.Opening.{HasEntries}
-use Rattle.sky_recover.specs.Settling.{IsSettled, KeepsAbove}
+use Rattle.sky_recover.specs.Settling.{KeepsAbove}
 
 -- what may be left while an object is put: the disk as it may be left now, and the cloud's objects of now or those with the object
 abbrev pub PutsOrNot : {S : Type 0} → Ghosts S → (CloudMap → CloudMap) → S → OfPair
@@ -34,5 +35,5 @@ pub record IsContinued {S : Type 0} (g : Ghosts S) (volume : ℕ) (j : JournalVi
   pub count : length changes ≡ number_behind d.journal.newer 0
   pub told : WhereTold (g.image s) (λ image. (list : List (ℕ × List ℕ)) → journal_of j.volume j.size 0 image ≡ Ok list → changes ≡ changes_in (entries_above 0 list))
   pub has : WhereTold (g.image t) (HasEntries d.journal (record { before = 0; tree = empty_tree volume; changes = changes }))
-  pub settled : IsSettled 0 j d.journal
+  pub settled : SameButSpare (settled 0 j) d.journal
   pub stands : StandsOn g d.journal t

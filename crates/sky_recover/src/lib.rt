@@ -8,6 +8,7 @@
 mod boot;
 mod fault;
 mod grammar;
+mod laws;
 mod listing;
 mod opened;
 mod opening;
@@ -16,5 +17,6 @@ mod replaying;
 mod settling;
 
 pub use fault::OpenFault;
+pub use laws::a_site_is_found_in_one_way;
 pub use opened::Opened;
 pub use opening::recover;

@@ -9,7 +9,7 @@ ghost use Rattle.sky_outside.specs.Count.{Counts};
 ghost use Rattle.sky_outside.specs.Moments.{LeavesOnly, NothingPending, SameCloud};
 ghost use Rattle.sky_outside.specs.Told.{BothTold, WhereTold};
 ghost use Rattle.sky_sound.specs.Boot.{boot_bytes, boot_name, claimed};
-ghost use Rattle.sky_sound.specs.Entries.{entries_above, journal_of};
+ghost use Rattle.sky_sound.specs.Entries.{journal_of};
 ghost use Rattle.sky_sound.specs.Recovery.{IsSound};
 ghost use Rattle.sky_recover.specs.Faults.{IsOfJournal};
 ghost use Rattle.sky_recover.specs.Opening.{IsOpened, LeavesFound, WhereBothTold};
@@ -92,7 +92,7 @@ fn continue_from<D: Disk>(
     ensures continued { IfOk result (IsContinued D.Storage volume journal disk.old disk.new) }
     ensures is { IfOk result (λ d. IsJournal d.journal) }
     ensures foreign { (at : ℕ) → IsErrOf result (Foreign at) → WhereTold (D.image disk.old) (λ image. (list : List (ℕ × List ℕ))
-        → journal_of journal.volume journal.size 0 image ≡ Ok list → FailsAt (empty_tree volume) (entries_above 0 list) image at) }
+        → journal_of journal.volume journal.size 0 image ≡ Ok list → FailsAt (empty_tree volume) journal.size 0 list image at) }
     ensures kept { (at : ℕ) → IsErrOf result (Foreign at) → D.image disk.new ≡ D.image disk.old }
     ensures any_moment { KeepsEntries D.Storage journal.volume journal.size disk.old disk.new }
     ensures tells { OnOk result (BothTold (λ old new. Unit {0}) (D.image disk.old) (D.image disk.new)) }
@@ -119,7 +119,7 @@ fn continue_from<D: Disk>(
 /// change could not be done again; `DiskFault` where an area could not be closed or opened. `DiskFault` and `CloudFault` come only where that count of
 /// faults rose.
 ///
-/// A stop at any moment of it leaves what recovery finds as it was.
+/// A stop at any moment of it leaves what recovery finds as it was, and never a smaller next epoch.
 pub fn recover<S: Site>(
     alloc: Global,
     site: &mut S,

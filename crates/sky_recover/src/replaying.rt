@@ -9,9 +9,9 @@ ghost use Rattle.sky_outside.specs.Count.{Counts};
 ghost use Rattle.sky_outside.specs.Moments.{OnlyLooks};
 ghost use Rattle.sky_outside.specs.Told.{WhereTold};
 ghost use Rattle.sky_journal.specs.Place.{Left, start_in};
-ghost use Rattle.sky_sound.specs.Entries.{entries_above, is_of_change, IsStorable, journal_of};
+ghost use Rattle.sky_sound.specs.Entries.{is_of_change, IsStorable, journal_of};
 ghost use Rattle.sky_recover.specs.Faults.{IsOfEntry, IsOfJournal};
-ghost use Rattle.sky_recover.specs.Replaying.{DoesNext, FailsAt, FailsNext, IsRedone, IsRefused, IsReplayed, IsWhose, LiesAt};
+ghost use Rattle.sky_recover.specs.Replaying.{DoesNext, FailsAt, FailsNext, IsFirstOf, IsRedone, IsRefused, IsReplayed, IsWhose};
 ghost use Rattle.sky_recover.specs.Settling.{IsRead};
 ghost use Rattle.sky_recover.specs.declared.fault.OpenFault.TheVariants.{DiskFault, Foreign};
 
@@ -121,7 +121,8 @@ fn body_behind(journal: &Journal, newer: bool, gate: u64) -> u64
 /// Where on the disk the entry behind a place lies, in bytes, where one is left there: behind the header of the next batch, where none is left
 /// of the place's own.
 fn entry_position(journal: &Journal, place: Place) -> u64
-    ensures { (image : List ℕ) (e : ℕ × List ℕ) (rest : List (ℕ × List ℕ)) → Left journal.now image place (e ∷ rest) → LiesAt image e.1 result }
+    ensures { (image : List ℕ) (e : ℕ × List ℕ) (rest : List (ℕ × List ℕ)) (places : List ℕ)
+        → Left journal.now image place (e ∷ rest) places → IsFirstOf places result }
 {
     journal.facts();
     if is_past(journal, place) {
@@ -175,7 +176,7 @@ pub(crate) fn replay<D: Disk>(
     requires read { WhereTold (D.image disk.old) (IsRead journal.now 0) }
     ensures replayed { OnOk result (IsReplayed D.Storage journal.now disk.old tree.old tree.new) }
     ensures foreign { (at : ℕ) → IsErrOf result (Foreign at) → WhereTold (D.image disk.old) (λ image. (list : List (ℕ × List ℕ))
-        → journal_of journal.now.volume journal.now.size 0 image ≡ Ok list → FailsAt tree.old (entries_above 0 list) image at) }
+        → journal_of journal.now.volume journal.now.size 0 image ≡ Ok list → FailsAt tree.old journal.now.size 0 list image at) }
     ensures faults { IsOfJournal result }
     ensures looks { OnlyLooks D.Storage disk.old disk.new }
     ensures cause { Counts (D.disk_faults disk.old) (D.disk_faults disk.new) (IsErrOf result DiskFault) }

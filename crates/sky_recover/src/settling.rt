@@ -5,8 +5,9 @@ ghost use Rattle.sky_base.specs.Limits.{max_number};
 ghost use Rattle.sky_outside.specs.Count.{Counts};
 ghost use Rattle.sky_outside.specs.Moments.{SameCloud};
 ghost use Rattle.sky_outside.specs.Told.{WhereTold};
-ghost use Rattle.sky_journal.specs.Journal.{StandsOn, number_behind};
-ghost use Rattle.sky_recover.specs.Settling.{IsRead, IsSettled, LeavesAbove, StaysAbove};
+ghost use Rattle.sky_journal.specs.Journal.{SameButSpare, StandsOn, number_behind};
+ghost use Rattle.sky_sound.specs.Settled.{settled};
+ghost use Rattle.sky_recover.specs.Settling.{IsRead, LeavesAbove, StaysAbove};
 
 use sky_journal::Journal;
 use sky_outside::{Disk, Failed};
@@ -19,7 +20,7 @@ fn begin_anew<D: Disk>(journal: &mut Journal, disk: &mut D, covers: u64) -> Resu
     requires read { WhereTold (D.image disk.old) (IsRead journal.old covers) }
     requires number { covers < max_number }
     requires covered { number_behind journal.old.newer 0 ≤ covers }
-    ensures settled { OnOk result (IsSettled covers journal.old journal.new) }
+    ensures settled { OnOk result (SameButSpare (settled covers journal.old) journal.new) }
     ensures stands { OnOk result (StandsOn D.Storage journal.new disk.new) }
     ensures read { OnOk result (WhereTold (D.image disk.new) (IsRead journal.new covers)) }
     ensures above { OnOk result (StaysAbove D.Storage disk.old disk.new journal.old covers) }
@@ -55,7 +56,7 @@ fn release_covered<D: Disk>(journal: &mut Journal, disk: &mut D, covers: u64) ->
     requires stands { StandsOn D.Storage journal.old disk.old }
     requires read { WhereTold (D.image disk.old) (IsRead journal.old covers) }
     requires above { covers < number_behind journal.old.newer 0 }
-    ensures settled { OnOk result (IsSettled covers journal.old journal.new) }
+    ensures settled { OnOk result (SameButSpare (settled covers journal.old) journal.new) }
     ensures stands { OnOk result (StandsOn D.Storage journal.new disk.new) }
     ensures read { OnOk result (WhereTold (D.image disk.new) (IsRead journal.new covers)) }
     ensures above { OnOk result (StaysAbove D.Storage disk.old disk.new journal.old covers) }
@@ -88,7 +89,7 @@ pub(crate) fn settle<D: Disk>(
     requires stands { StandsOn D.Storage journal.old disk.old }
     requires read { WhereTold (D.image disk.old) (IsRead journal.old covers) }
     requires number { covers < max_number }
-    ensures settled { OnOk result (IsSettled covers journal.old journal.new) }
+    ensures settled { OnOk result (SameButSpare (settled covers journal.old) journal.new) }
     ensures stands { OnOk result (StandsOn D.Storage journal.new disk.new) }
     ensures read { OnOk result (WhereTold (D.image disk.new) (IsRead journal.new covers)) }
     // The entries above covers are those from before, also at each moment in between.

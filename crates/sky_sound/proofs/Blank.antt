@@ -1,15 +1,18 @@
 -- A disk of zeros has no entry.
 use Rattle.std.specs.Prelude.{◌==◌}
 use Rattle.std.specs.List.{AllByRecursion}
-use Rattle.std.proofs.Common.{◌≡◌, ℕ, zero, suc, ◌*◌, ◌≤◌, Bool, false, List, [], ◌∷◌, take, drop, replicate, None, Ok, refl, ap, ◌∙◌, arith}
+use Rattle.std.proofs.Common.{◌≡◌, ℕ, zero, suc, ◌*◌, ◌≤◌, Bool, false, List, [], ◌∷◌, length, map, take, drop, replicate, None, Ok, refl, sym, ap, ◌∙◌, arith}
 use Rattle.std.proofs.lemmas.List.{length-replicate}
+use Rattle.std.specs.FinMap.{empty, entries, len-empty, len-entries}
+use Rattle.sky_base.specs.Order.{name_order}
+use Rattle.sky_base.specs.declared.object.SegName.{SegName}
 use Rattle.sky_nfs.specs.Tree.{empty_tree}
 use Rattle.sky_nfs.specs.Validity.{IsValidTree}
-use Rattle.sky_outside.specs.CloudMap.{CloudMap}
+use Rattle.sky_outside.specs.CloudMap.{CloudMap, held_of}
 use Rattle.sky_journal.specs.Layout.{is_open}
 use Rattle.sky_journal.specs.Text.{Area, open_areas, first_area, second_area, areas_entries, entries_of}
 use Rattle.sky_journal.proofs.JournalRead.{large_enough}
-use Rattle.sky_sound.specs.Cloud.{checkpoint_in, covers_of, cloud_tree}
+use Rattle.sky_sound.specs.Cloud.{HasNoCheckpoint, covers_of, cloud_tree, last_checkpoint}
 use Rattle.sky_sound.specs.Entries.{is_of_change}
 use Rattle.sky_sound.specs.Recovery.{IsSound, recovered, history_from}
 use Rattle.sky_sound.proofs.Above.{recovered_is, history_is}
@@ -52,14 +55,25 @@ blank is_entry volume size covers bytes fits =
     (closed (take size (drop size image)) (zeros_take size (drop size image) (zeros_drop size image (zeros_all bytes)))))
     ∙ no_areas is_entry volume covers
 
-pub blank_recovered : (volume size bytes : ℕ) (objects : CloudMap) → 2 * size ≤ bytes → recovered volume size (replicate bytes 0) objects ≡ Ok (record { length = 0; tree = empty_tree volume })
-blank_recovered volume size bytes objects fits =
-    recovered_is volume size (replicate bytes 0) objects [] (blank is_of_change volume size (covers_of objects) bytes fits)
+-- a cloud with no objects has no checkpoint
+none_listed : (es : List (SegName × List ℕ)) → length es ≡ 0 → last_checkpoint (map held_of es) ≡ None
+none_listed [] none = refl
+none_listed (e ∷ es) none = absurd (omega (arith, none))
 
-pub blank_sound : (volume size bytes : ℕ) (objects : CloudMap) → IsValidTree (empty_tree volume) → 2 * size ≤ bytes → checkpoint_in objects ≡ None → IsSound volume size (replicate bytes 0) objects
-blank_sound volume size bytes objects valid fits none = record {
-  no_checkpoint = none;
-  history = history_from (covers_of objects) (cloud_tree volume objects) [];
-  stands_for = history_is volume size (replicate bytes 0) objects [] (blank is_of_change volume size (covers_of objects) bytes fits);
-  legal = record { valid = valid; done = refl };
-}
+pub empty_unchecked : HasNoCheckpoint empty
+empty_unchecked = let nothing : CloudMap = empty in none_listed (entries nothing) (sym (len-entries nothing) ∙ len-empty name_order (List ℕ))
+
+pub blank_recovered : (volume size bytes : ℕ) → 2 * size ≤ bytes → recovered volume size (replicate bytes 0) empty ≡ Ok (record { length = 0; tree = empty_tree volume })
+blank_recovered volume size bytes fits =
+    let nothing : CloudMap = empty in
+    recovered_is volume size (replicate bytes 0) nothing [] (blank is_of_change volume size (covers_of nothing) bytes fits)
+
+pub blank_sound : (volume size bytes : ℕ) → IsValidTree (empty_tree volume) → 2 * size ≤ bytes → IsSound volume size (replicate bytes 0) empty
+blank_sound volume size bytes valid fits =
+    let nothing : CloudMap = empty in
+    record {
+      no_checkpoint = empty_unchecked;
+      history = history_from (covers_of nothing) (cloud_tree volume nothing) [];
+      stands_for = history_is volume size (replicate bytes 0) nothing [] (blank is_of_change volume size (covers_of nothing) bytes fits);
+      legal = record { valid = valid; done = refl };
+    }

@@ -1,6 +1,6 @@
 -- What a cloud shows after the next epoch was claimed by its boot object. Crates above cite this.
 use Rattle.std.specs.Prelude.{max}
-use Rattle.std.proofs.Common.{◌≡◌, ℕ, ◌+◌, List, [], ◌∷◌, map, Ordering, refl, ap, ◌∙◌, arith}
+use Rattle.std.proofs.Common.{◌≡◌, ℕ, ◌+◌, ◌≤◌, List, [], ◌∷◌, map, Ordering, refl, ap, ◌∙◌, arith}
 use Rattle.std.specs.declared.cmp.Ordering.TheVariants.{Less, Equal, Greater}
 use Rattle.std.specs.FinMap.{entries, entries-insert}
 use Rattle.std.specs.FinMap.Entries.{put}
@@ -41,6 +41,10 @@ epoch_after-claimed objects =
     let e : epoch_after (claimed objects) ≡ max (epoch_after objects + 1) (epoch_after objects) = epoch_after-put (boot_name (epoch_after objects)) (boot_bytes (epoch_after objects)) objects in
     omega (arith, e)
 
+-- so it is not less
+pub epoch_kept-claimed : (objects : CloudMap) → epoch_after objects ≤ epoch_after (claimed objects)
+epoch_kept-claimed objects = omega (arith, epoch_after-claimed objects)
+
 -- the last checkpoint is as before
 pub checkpoint_in-claimed : (objects : CloudMap) → checkpoint_in (claimed objects) ≡ checkpoint_in objects
 checkpoint_in-claimed objects = checkpoint_after (boot_name (epoch_after objects)) (boot_bytes (epoch_after objects)) refl objects
@@ -64,4 +68,5 @@ sound-claimed volume size image objects is = record {
     legal = is.legal;
   };
   same = recovered-claimed volume size image objects;
+  epoch = epoch_kept-claimed objects;
 }

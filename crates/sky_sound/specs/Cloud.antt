@@ -1,6 +1,6 @@
 -- What the cloud says of a volume: the epochs that its objects show, its last checkpoint, and the tree and the number of changes
 -- that it holds.
-use Rattle.std.specs.Prelude.{ℕ, ◌+◌, max, Bool, false, List, [], ◌∷◌, Option, Some, None, if◌then◌else◌}
+use Rattle.std.specs.Prelude.{◌≡◌, ℕ, ◌+◌, max, Bool, false, List, [], ◌∷◌, Option, Some, None, if◌then◌else◌}
 use Rattle.sky_base.specs.declared.object.Dir.{Dir}
 use Rattle.sky_base.specs.declared.object.Dir.TheVariants.{Proxy, Cleaner}
 use Rattle.sky_base.specs.declared.object.SegName.{SegName}
@@ -39,6 +39,10 @@ epoch_after objects = next_epoch (listing objects)
 
 abbrev pub checkpoint_in : CloudMap → Option SegName
 checkpoint_in objects = last_checkpoint (listing objects)
+
+-- a cloud has no checkpoint of the proxy
+abbrev pub HasNoCheckpoint : CloudMap → Type 0
+HasNoCheckpoint objects = checkpoint_in objects ≡ None
 
 -- up to which change a cloud holds a volume. Without a checkpoint it is 0, and checkpoints are not read yet
 abbrev pub covers_of : CloudMap → ℕ

@@ -1,11 +1,11 @@
 -- What recovery finds on a site, which history it stands for, and which sites are sound: all by the image of its disk and the
 -- objects in its cloud.
-use Rattle.std.specs.Prelude.{◌≡◌, ℕ, List, None, Ok}
+use Rattle.std.specs.Prelude.{◌≡◌, ℕ, ◌≤◌, List, Ok}
 use Rattle.sky_outside.specs.CloudMap.{CloudMap}
 use Rattle.sky_nfs.specs.History.{History, IsLegalHistory, tree_after_changes}
 use Rattle.sky_nfs.specs.Tree.{Tree}
 use Rattle.sky_journal.specs.Text.{Read, ◌>>=◌}
-use Rattle.sky_sound.specs.Cloud.{checkpoint_in, covers_of, cloud_tree}
+use Rattle.sky_sound.specs.Cloud.{HasNoCheckpoint, covers_of, cloud_tree, epoch_after}
 use Rattle.sky_sound.specs.Entries.{journal_of, entries_above, changes_in, last_number}
 
 -- how many changes were made, and the tree after them
@@ -37,12 +37,13 @@ history_of volume size image objects = do
 -- A site is sound where its disk is a journal of the volume whose changes, above those that the cloud covers, are a legal history on
 -- the cloud's tree. As long as checkpoints are not read, its cloud holds none of the proxy.
 pub record IsSound (volume size : ℕ) (image : List ℕ) (objects : CloudMap) : Type 0 where
-  pub no_checkpoint : checkpoint_in objects ≡ None
+  pub no_checkpoint : HasNoCheckpoint objects
   pub history : History
   pub stands_for : history_of volume size image objects ≡ Ok history
   pub legal : IsLegalHistory history
 
--- A crash left this of a site: it is sound, and recovery finds the same as before.
+-- A crash left this of a site: it is sound, recovery finds the same as before, and the next epoch is not less than before.
 pub record FindsSame (volume size : ℕ) (image : List ℕ) (objects : CloudMap) (left : List ℕ) (held : CloudMap) : Type 0 where
   pub sound : IsSound volume size left held
   pub same : recovered volume size left held ≡ recovered volume size image objects
+  pub epoch : epoch_after objects ≤ epoch_after held

@@ -1,23 +1,26 @@
 //! What holds of the definitions as such. A call of these functions does nothing: each of their clauses is a law that is proved.
 
-ghost use Rattle.std.specs.Prelude.{◌≡◌, ℕ, ◌+◌, ◌*◌, ◌≤◌, List, None, Ok, replicate};
+ghost use Rattle.std.specs.Prelude.{◌≡◌, ℕ, ◌+◌, ◌*◌, ◌≤◌, List, Ok, replicate};
+ghost use Rattle.std.specs.FinMap.{empty};
 ghost use Rattle.sky_base.specs.Limits.{max_volume};
+ghost use Rattle.sky_journal.specs.Journal.{JournalView};
 ghost use Rattle.sky_nfs.specs.History.{History, history_length, last_tree};
 ghost use Rattle.sky_nfs.specs.Tree.{empty_tree};
 ghost use Rattle.sky_outside.specs.CloudMap.{CloudMap};
 ghost use Rattle.sky_sound.specs.Boot.{claimed};
 ghost use Rattle.sky_sound.specs.Cloud.{checkpoint_in, epoch_after};
 ghost use Rattle.sky_sound.specs.Recovery.{history_of, FindsSame, IsSound, recovered};
+ghost use Rattle.sky_sound.specs.Settled.{settled};
 
 use sky_nfs::valid_trees_stay_valid;
 
-/// A disk of zeros that has room for two areas, and a cloud without a checkpoint of the proxy, are a sound site of each volume:
-/// no change was made, and the tree is the empty one.
+/// A disk of zeros that has room for two areas, and a cloud with no objects, are a sound site of each volume: no change was made,
+/// and the tree is the empty one.
 pub fn a_blank_site_is_sound()
-    ensures sound { (volume size bytes : ℕ) (objects : CloudMap) → volume ≤ max_volume → 2 * size ≤ bytes
-        → checkpoint_in objects ≡ None → IsSound volume size (replicate bytes 0) objects }
-    ensures found { (volume size bytes : ℕ) (objects : CloudMap) → 2 * size ≤ bytes
-        → recovered volume size (replicate bytes 0) objects ≡ Ok (record { length = 0; tree = empty_tree volume }) }
+    ensures sound { (volume size bytes : ℕ) → volume ≤ max_volume → 2 * size ≤ bytes
+        → IsSound volume size (replicate bytes 0) empty }
+    ensures found { (volume size bytes : ℕ) → 2 * size ≤ bytes
+        → recovered volume size (replicate bytes 0) empty ≡ Ok (record { length = 0; tree = empty_tree volume }) }
 {
     valid_trees_stay_valid();
 }
@@ -36,4 +39,9 @@ pub fn a_boot_object_claims_its_epoch()
     ensures checkpoint { (objects : CloudMap) → checkpoint_in (claimed objects) ≡ checkpoint_in objects }
     ensures sound { (volume size : ℕ) (image : List ℕ) (objects : CloudMap) → IsSound volume size image objects
         → FindsSame volume size image objects image (claimed objects) }
+{}
+
+/// What an opening leaves of a journal is left as it is by the next one, where the same entries are kept elsewhere.
+pub fn a_settled_journal_stays()
+    ensures { (covers : ℕ) (read : JournalView) → settled covers (settled covers read) ≡ settled covers read }
 {}

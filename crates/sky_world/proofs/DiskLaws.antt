@@ -82,17 +82,17 @@ storable_to kept n all = all_take IsStorable (n - kept.history.before) kept.hist
 
 -- ---- calls one after the other
 
-told_both : {A : Type 0} (a b : Option A) (x : A) → BothTold (λ old new. Unit {0}) a b → a ≡ Some x → (y : A) × (b ≡ Some y)
+pub told_both : {A : Type 0} (a b : Option A) (x : A) → BothTold (λ old new. Unit {0}) a b → a ≡ Some x → (y : A) × (b ≡ Some y)
 told_both None None x both e = absurd cc
 told_both None (Some y) x both e = absurd both
 told_both (Some w) None x both e = absurd both
 told_both (Some w) (Some y) x both e = (y, refl)
 
-both_same : {A : Type 0} (a : Option A) → BothTold (λ old new. Unit {0}) a a
+pub both_same : {A : Type 0} (a : Option A) → BothTold (λ old new. Unit {0}) a a
 both_same None = tt
 both_same (Some x) = tt
 
-both_then : {A : Type 0} (a b c : Option A) → BothTold (λ old new. Unit {0}) a b → BothTold (λ old new. Unit {0}) b c → BothTold (λ old new. Unit {0}) a c
+pub both_then : {A : Type 0} (a b c : Option A) → BothTold (λ old new. Unit {0}) a b → BothTold (λ old new. Unit {0}) b c → BothTold (λ old new. Unit {0}) a c
 both_then None None c p q = q
 both_then None (Some y) c p q = absurd p
 both_then (Some x) None c p q = absurd p

@@ -1,11 +1,11 @@
 -- Laws of a payload that is handled piece by piece: how it goes on, and how it comes to its end.
-use Rattle.std.proofs.Common.{◌≡◌, ℕ, ◌<◌, Bool, true, false, Option, Some, None, is_some, Err, List, [], ◌∷◌, ◌++◌, length, refl, sym, ap, subst, ◌∙◌, arith, append_assoc}
+use Rattle.std.proofs.Common.{◌≡◌, ℕ, ◌<◌, ◌≤◌, take, Bool, true, false, Option, Some, None, is_some, Err, List, [], ◌∷◌, ◌++◌, length, refl, sym, ap, subst, ◌∙◌, arith, append_assoc}
 use Rattle.std.specs.Prelude.{IsErrOf}
 use Rattle.std.proofs.lemmas.List.{append-nil}
 use Rattle.std.proofs.lemmas.Grind.{flat_map-append}
 use Rattle.sky_outside.specs.Told.{Given, GivenPart}
 use Rattle.sky_outside.specs.declared.storage.Storage.{Ghosts}
-use Rattle.sky_outside.proofs.ToldLaws.{Given-then, GivenPart-then, GivenPart-first}
+use Rattle.sky_outside.proofs.ToldLaws.{Given-then}
 use Rattle.sky_record.specs.declared.assembler.Fed.{Fed}
 use Rattle.sky_record.specs.declared.assembler.Fed.TheVariants as fed_as
 use Rattle.sky_record.specs.Feeding.{answer_at, FedReads}
@@ -15,11 +15,10 @@ use Rattle.sky_script.specs.Frame as frame
 use Rattle.sky_script.specs.Frame.{OutFrame, Reply, out_frame, out_frames}
 use Rattle.sky_world.specs.Bytes.{AreBytes}
 use Rattle.sky_world.specs.Disk.{LeavesPrefix, WentOn}
-use Rattle.sky_world.specs.Meaning.{State, Kept, Open, Closed, Scarce, Answered, session_at, with_kept, with_session, frame_for, is_open, Then, Closes, StepRecord, StepRecords, StepProgress, StepBytes}
+use Rattle.sky_world.specs.Meaning.{State, Kept, Open, Closed, Scarce, Answered, by_meaning, put_off, out_of_memory, session_at, with_kept, with_session, frame_for, is_open, Then, Closes, StepRecord, StepRecords, StepProgress, StepBytes}
 use Rattle.sky_world.specs.World.{ServiceView, ServesFor}
 use Rattle.sky_world.specs.Feeding.{Answers, Fails, FeedFails, GoesOn, Feeds, more, answered, too_long, Rests, UnderWay}
-use Rattle.sky_world.proofs.DiskLaws.{Extends, extends_then, leaves_on, went_nowhere}
-use Rattle.sky_world.proofs.GoesLaws.{Rises, answer_rises, progress_extends, records_extend, rises_same}
+use Rattle.sky_world.proofs.DiskLaws.{went_nowhere}
 use Rattle.sky_world.proofs.FrameLaws.{bytes-append}
 use Rattle.sky_world.proofs.StepLaws.{session_at-same, with_session-twice, where_open, where_closed, records_then, records_passed, records_some, progress_some}
 
@@ -54,7 +53,7 @@ progress_open n TooLong s o = absurd o
 
 -- ---- the state while a payload is under way
 
-abbrev fed : State → ℕ → List ℕ → Kept → State
+abbrev pub fed : State → ℕ → List ℕ → Kept → State
 fed s n all kept = with_kept (with_session s n (Open all)) kept
 
 fed_open : (s : State) (n : ℕ) (all : List ℕ) (kept : Kept) → n < length s.sessions → is_open (session_at (fed s n all kept) n) ≡ true
@@ -69,6 +68,12 @@ closed_not_open s n kept lt = ap is_open (session_at-same (with_kept s kept) n C
 
 closed_is : (s : State) (n : ℕ) (all : List ℕ) (kept : Kept) → with_session (fed s n all kept) n Closed ≡ closed s n kept
 closed_is s n all kept = with_session-twice (with_kept s kept) n (Open all) Closed
+
+-- to the answer of a record the streams of the sessions don't matter
+answered_fed : (s : State) (n : ℕ) (all : List ℕ) (kept : Kept) (bytes : List ℕ) (reply : Option (List ℕ)) (after : Kept) → Answered Scarce (with_kept s kept) bytes reply after → Answered Scarce (fed s n all kept) bytes reply after
+answered_fed s n all kept bytes reply after (by_meaning room e f) = by_meaning room e f
+answered_fed s n all kept bytes reply after (put_off full e f) = put_off full e f
+answered_fed s n all kept bytes reply after (out_of_memory scarce out f) = out_of_memory scarce out f
 
 -- ---- which records a payload completes, of which these came first
 
@@ -90,39 +95,37 @@ completed stream payload done rest before got part received fits more_fit e read
       completes = record { before = before; part = part; read = read; goes_on = subst (λ (t : List (List ℕ)). Reads (stream ++ payload) t all.1) records_are all.2 };
     }
 
-module _ {S : Type 0} (g : Ghosts S) (s : State) (n : ℕ) (stream payload : List ℕ) (lt : n < length s.sessions) where
-  -- the session when the payload begins
-  abbrev begun : State
-  begun = with_session s n (Open (stream ++ payload))
+-- at most one frame answers the bytes up to the end of a record
+pub feeds_one : {S : Type 0} (g : Ghosts S) (n : ℕ) (before : ServiceView) (d : S) (old : Received) (bytes : List ℕ) (outs : List OutFrame) (stays : Bool) (after : ServiceView) (e : S) (new : Received)
+    → Feeds g n before d old bytes outs stays after e new → length outs ≤ 1
+feeds_one g n before d old bytes outs stays after e new (more goes ready none is rests) = omega (arith, ap (λ (l : List OutFrame). length l) none)
+feeds_one g n before d old bytes outs stays after e new (answered text reply goes empty answers out is) = omega (arith, ap (λ (l : List OutFrame). length l) out)
+feeds_one g n before d old bytes outs stays after e new (too_long end goes long out is rests) = omega (arith, ap (λ (l : List OutFrame). length l) out)
 
-  -- and under way
-  abbrev under : Kept → State
-  under kept = fed s n (stream ++ payload) kept
+-- a session that stays open can go on
+pub feeds_open : {S : Type 0} (g : Ghosts S) (n : ℕ) (before : ServiceView) (d : S) (old : Received) (bytes : List ℕ) (outs : List OutFrame) (stays : Bool) (after : ServiceView) (e : S) (new : Received)
+    → Feeds g n before d old bytes outs stays after e new → stays ≡ true → IsOpen new.progress
+feeds_open g n before d old bytes outs stays after e new (more goes ready none is rests) holds = ready
+feeds_open g n before d old bytes outs stays after e new (answered text reply goes empty answers out is) holds = subst (λ (r : Received). IsOpen r.progress) (sym empty) tt
+feeds_open g n before d old bytes outs stays after e new (too_long end goes long out is rests) holds = let f : false ≡ true = sym is ∙ holds in absurd cc
 
-  -- what stands for a state does so whatever its sessions are
-  serves_under : (service : ServiceView) (d : S) (kept : Kept) → ServesFor g service d (with_kept s kept) → ServesFor g service d (under kept)
-  serves_under service d kept p = record { epoch = p.epoch; tree = p.tree; moment = p.moment; journal = p.journal; kept = p.kept }
-
-  serves_after : (service : ServiceView) (d : S) (kept later : Kept) → ServesFor g service d (with_kept (under kept) later) → ServesFor g service d (with_kept s later)
-  serves_after service d kept later p = record { epoch = p.epoch; tree = p.tree; moment = p.moment; journal = p.journal; kept = p.kept }
-
+module _ {S : Type 0} (g : Ghosts S) (s : State) (n : ℕ) (stream : List ℕ) (lt : n < length s.sessions) where
   -- ---- a payload begins
 
-  pub under_way_begins : (before : List (List ℕ)) (received : Received) → Reads stream before received → UnderWay s n stream payload [] [] s.kept received
+  pub under_way_begins : (before : List (List ℕ)) (received : Received) → Reads stream before received → UnderWay s n stream [] [] s.kept received
   under_way_begins before received read = record {
     before = before;
     part = received;
     records = [];
     read = read;
     goes_on = subst (λ (t : List ℕ). Reads t (before ++ []) received) (sym (append-nil stream)) (subst (λ (t : List (List ℕ)). Reads stream t received) (sym (append-nil before)) read);
-    handled = (refl, refl);
+    handled = λ all. (refl, refl);
   }
 
   -- ---- it goes on
 
-  further_under_way : (done bytes : List ℕ) (outs further : List OutFrame) (kept later : Kept) (old new : Received) (records : List (List ℕ)) → UnderWay s n stream payload done outs kept old
-      → GoesOn old bytes records new → StepRecords Scarce n records (under kept) further (under later)
-      → UnderWay s n stream payload (done ++ bytes) (outs ++ further) later new
+  further_under_way : (done bytes : List ℕ) (outs further : List OutFrame) (kept later : Kept) (old new : Received) (records : List (List ℕ)) → UnderWay s n stream done outs kept old
+      → GoesOn old bytes records new → ((all : List ℕ) → StepRecords Scarce n records (fed s n all kept) further (fed s n all later)) → UnderWay s n stream (done ++ bytes) (outs ++ further) later new
   further_under_way done bytes outs further kept later old new records u goes step =
       let read = goes (stream ++ done) (u.before ++ u.records) u.goes_on in
       let text_read : Reads (stream ++ (done ++ bytes)) ((u.before ++ u.records) ++ records) new = subst (λ (t : List ℕ). Reads t ((u.before ++ u.records) ++ records) new) (append_assoc stream done bytes) read in
@@ -132,13 +135,12 @@ module _ {S : Type 0} (g : Ghosts S) (s : State) (n : ℕ) (stream payload : Lis
         records = u.records ++ records;
         read = u.read;
         goes_on = subst (λ (t : List (List ℕ)). Reads (stream ++ (done ++ bytes)) t new) (append_assoc u.before u.records records) text_read;
-        handled = records_then Scarce n u.records records begun outs (under kept) further (under later) u.handled step;
+        handled = λ all. records_then Scarce n u.records records (with_session s n (Open all)) outs (fed s n all kept) further (fed s n all later) (u.handled all) (step all);
       }
 
   -- what is kept that goes on, for which the service stands
   abbrev pub GoesOnUnder : Kept → S → List ℕ → List OutFrame → ServiceView → S → Received → Type 0
-  GoesOnUnder kept d done outs after e new =
-      (later : Kept) × ServesFor g after e (with_kept s later) × UnderWay s n stream payload done outs later new × Rises kept later × WentOn g d e kept.mark later
+  GoesOnUnder kept d done outs after e new = (later : Kept) × ServesFor g after e (with_kept s later) × UnderWay s n stream done outs later new × WentOn g d e kept.mark later
 
   -- where nothing happened
   rested : (kept : Kept) (before after : ServiceView) (d e : S) → Rests before d after e → ServesFor g before d (with_kept s kept)
@@ -148,74 +150,72 @@ module _ {S : Type 0} (g : Ghosts S) (s : State) (n : ℕ) (stream payload : Lis
     subst (λ (x : S). WentOn g d x kept.mark kept) (sym rests.1) (went_nowhere g kept d serves.kept),
   )
 
+  -- a record that leaves the session open, whatever else its stream has
+  goes_by : (text : List ℕ) (reply : Option (List ℕ)) (further : List OutFrame) (kept later : Kept) → is_some reply ≡ true → further ≡ frame_for n reply ∷ [] → Answered Scarce (with_kept s kept) text reply later
+      → (all : List ℕ) → StepRecords Scarce n (text ∷ []) (fed s n all kept) further (fed s n all later)
+  goes_by text reply further kept later is out by all =
+      one_record n text (fed s n all kept) further (fed s n all later) (fed_open s n all kept lt)
+      (subst (λ (f : List OutFrame). StepRecord Scarce n text (fed s n all kept) f (fed s n all later)) (sym out) (record_does n text reply (fed s n all kept) later is (answered_fed s n all kept text reply later by)))
+
   pub under_way_on : (done bytes : List ℕ) (outs further : List OutFrame) (kept : Kept) (before after : ServiceView) (d e : S) (old new : Received) (stays : Bool) → stays ≡ true
-      → ServesFor g before d (with_kept s kept) → UnderWay s n stream payload done outs kept old
+      → ServesFor g before d (with_kept s kept) → UnderWay s n stream done outs kept old
       → Feeds g n before d old bytes further stays after e new → GoesOnUnder kept d (done ++ bytes) (outs ++ further) after e new
   under_way_on done bytes outs further kept before after d e old new stays holds serves u (more goes ready none is rests) =
       let r = rested kept before after d e rests serves in
-      (kept, r.0, further_under_way done bytes outs further kept kept old new [] u goes (none, refl), rises_same kept, r.1)
+      (kept, r.0, further_under_way done bytes outs further kept kept old new [] u goes (λ all. (none, refl)), r.1)
   under_way_on done bytes outs further kept before after d e old new stays holds serves u (answered text reply goes empty answers out is) =
-      let by = answers.each (under kept) (serves_under before d kept serves) in
-      let does : StepRecord Scarce n text (under kept) further (under by.0) =
-      subst (λ (f : List OutFrame). StepRecord Scarce n text (under kept) f (under by.0)) (sym out) (record_does n text reply (under kept) by.0 (sym is ∙ holds) by.1) in (
+      let by = answers.each (with_kept s kept) serves in (
         by.0,
-        serves_after after e kept by.0 by.2,
+        by.2,
         further_under_way done bytes outs further kept by.0 old new (text ∷ []) u (λ t r h. subst (λ (x : Received). Reads (t ++ bytes) (r ++ text ∷ []) x) (sym empty) (goes t r h))
-            (one_record n text (under kept) further (under by.0) (fed_open s n (stream ++ payload) kept lt) does),
-        answer_rises (under kept) text reply by.0 serves.kept.most by.1,
+            (goes_by text reply further kept by.0 (sym is ∙ holds) out by.1),
         by.3,
       )
   under_way_on done bytes outs further kept before after d e old new stays holds serves u (too_long end goes long out is rests) = let f : false ≡ true = sym is ∙ holds in absurd cc
 
   -- ---- its session is open at its end
 
-  pub under_way_whole : (done : List ℕ) (outs : List OutFrame) (kept : Kept) (received : Received) → UnderWay s n stream payload done outs kept received → done ≡ payload → IsOpen received.progress
-      → StepBytes Scarce (Open stream) n payload s outs (under kept)
-  under_way_whole done outs kept received u e ready = (
+  pub under_way_whole : (done : List ℕ) (outs : List OutFrame) (kept : Kept) (received : Received) → UnderWay s n stream done outs kept received → IsOpen received.progress
+      → StepBytes Scarce (Open stream) n done s outs (fed s n (stream ++ done) kept)
+  under_way_whole done outs kept received u ready = (
     u.records,
     received,
-    record { before = u.before; part = u.part; read = u.read; goes_on = subst (λ (t : List ℕ). Reads (stream ++ t) (u.before ++ u.records) received) e u.goes_on },
-    (under kept, outs, [], u.handled, progress_open n received.progress (under kept) ready, sym (append-nil outs)),
+    record { before = u.before; part = u.part; read = u.read; goes_on = u.goes_on },
+    (fed s n (stream ++ done) kept, outs, [], u.handled (stream ++ done), progress_open n received.progress (fed s n (stream ++ done) kept) ready, sym (append-nil outs)),
   )
 
   -- ---- its session is closed under way
 
-  closed_ends : (done rest : List ℕ) (before got : List (List ℕ)) (part received : Received) (outs : List OutFrame) (kept : Kept) → AreBytes stream → AreBytes payload → payload ≡ done ++ rest
-      → Reads stream before part → Reads (stream ++ done) (before ++ got) received → StepRecords Scarce n got begun outs (closed s n kept)
-      → StepBytes Scarce (Open stream) n payload s outs (closed s n kept)
-  closed_ends done rest before got part received outs kept fits more_fit e read goes_on steps =
+  -- a payload that begins so closes it
+  abbrev pub Closes_by : List ℕ → List OutFrame → Kept → Type 0
+  Closes_by done outs later = (payload rest : List ℕ) → AreBytes payload → payload ≡ done ++ rest → StepBytes Scarce (Open stream) n payload s outs (closed s n later)
+
+  closed_ends : (done : List ℕ) (before got : List (List ℕ)) (part received : Received) (outs : List OutFrame) (kept : Kept) → AreBytes stream
+      → Reads stream before part → Reads (stream ++ done) (before ++ got) received → ((all : List ℕ) → StepRecords Scarce n got (with_session s n (Open all)) outs (closed s n kept)) → Closes_by done outs kept
+  closed_ends done before got part received outs kept fits read goes_on steps payload rest more_fit e =
       let c = completed stream payload done rest before got part received fits more_fit e read goes_on in
+      let begun : State = with_session s n (Open (stream ++ payload)) in
       let not_open = closed_not_open s n kept lt in
-      let all = records_then Scarce n got c.later begun outs (closed s n kept) [] (closed s n kept) steps (records_passed Scarce n c.later (closed s n kept) not_open) in
+      let all = records_then Scarce n got c.later begun outs (closed s n kept) [] (closed s n kept) (steps (stream ++ payload)) (records_passed Scarce n c.later (closed s n kept) not_open) in
       let here = subst (λ (o : List OutFrame). StepRecords Scarce n (got ++ c.later) begun o (closed s n kept)) (append-nil outs) all in
       (got ++ c.later, c.end, c.completes, (closed s n kept, outs, [], here, progress_passed n c.end.progress (closed s n kept) not_open, sym (append-nil outs)))
 
   -- what is kept when the session is closed, for which the service stands
-  abbrev pub ClosesUnder : Kept → S → List OutFrame → ServiceView → S → Type 0
-  ClosesUnder kept d outs after e =
-      (later : Kept) × ServesFor g after e (with_kept s later) × StepBytes Scarce (Open stream) n payload s outs (closed s n later) × Rises kept later × WentOn g d e kept.mark later
+  abbrev pub ClosesUnder : Kept → S → List ℕ → List OutFrame → ServiceView → S → Type 0
+  ClosesUnder kept d done outs after e = (later : Kept) × ServesFor g after e (with_kept s later) × Closes_by done outs later × WentOn g d e kept.mark later
 
-  pub under_way_closes : (done bytes rest : List ℕ) (outs further : List OutFrame) (kept : Kept) (before after : ServiceView) (d e : S) (old new : Received) (stays : Bool) → stays ≡ false → AreBytes stream → AreBytes payload
-      → payload ≡ (done ++ bytes) ++ rest → ServesFor g before d (with_kept s kept) → UnderWay s n stream payload done outs kept old → Feeds g n before d old bytes further stays after e new
-      → ClosesUnder kept d (outs ++ further) after e
-  under_way_closes done bytes rest outs further kept before after d e old new stays holds fits more_fit parts serves u (more goes ready none is rests) = let f : true ≡ false = sym is ∙ holds in absurd cc
-  under_way_closes done bytes rest outs further kept before after d e old new stays holds fits more_fit parts serves u (answered text reply goes empty answers out is) =
-      let by = answers.each (under kept) (serves_under before d kept serves) in
-      let closes = record_closes n text reply (under kept) by.0 (sym is ∙ holds) by.1 in
-      let out_does = subst (λ (f : List OutFrame). StepRecord Scarce n text (under kept) f (with_session (under by.0) n Closed)) (sym out) closes in
-      let does : StepRecord Scarce n text (under kept) further (closed s n by.0) = subst (λ (t : State). StepRecord Scarce n text (under kept) further t) (closed_is s n (stream ++ payload) by.0) out_does in
-      let steps = records_then Scarce n u.records (text ∷ []) begun outs (under kept) further (closed s n by.0) u.handled (one_record n text (under kept) further (closed s n by.0) (fed_open s n (stream ++ payload) kept lt) does) in
-      let read = goes (stream ++ done) (u.before ++ u.records) u.goes_on in
-      let text_read : Reads (stream ++ (done ++ bytes)) ((u.before ++ u.records) ++ text ∷ []) nothing = subst (λ (t : List ℕ). Reads t ((u.before ++ u.records) ++ text ∷ []) nothing) (append_assoc stream done bytes) read in
-      let got_read : Reads (stream ++ (done ++ bytes)) (u.before ++ (u.records ++ text ∷ [])) nothing = subst (λ (t : List (List ℕ)). Reads (stream ++ (done ++ bytes)) t nothing) (append_assoc u.before u.records (text ∷ [])) text_read in (
-        by.0,
-        serves_after after e kept by.0 by.2,
-        closed_ends (done ++ bytes) rest u.before (u.records ++ text ∷ []) u.part nothing (outs ++ further) by.0 fits more_fit parts u.read got_read steps,
-        answer_rises (under kept) text reply by.0 serves.kept.most by.1,
-        by.3,
-      )
-  under_way_closes done bytes rest outs further kept before after d e old new stays holds fits more_fit parts serves u (too_long end goes long out is rests) =
-      let r = rested kept before after d e rests serves in
+  -- a record that closes the session, whatever else its stream has
+  closes_record : (text : List ℕ) (reply : Option (List ℕ)) (further : List OutFrame) (kept later : Kept) → is_some reply ≡ false → further ≡ frame_for n reply ∷ [] → Answered Scarce (with_kept s kept) text reply later
+      → (all : List ℕ) → StepRecords Scarce n (text ∷ []) (fed s n all kept) further (closed s n later)
+  closes_record text reply further kept later is out by all =
+      let closes = record_closes n text reply (fed s n all kept) later is (answered_fed s n all kept text reply later by) in
+      let out_does = subst (λ (f : List OutFrame). StepRecord Scarce n text (fed s n all kept) f (with_session (fed s n all later) n Closed)) (sym out) closes in
+      one_record n text (fed s n all kept) further (closed s n later) (fed_open s n all kept lt) (subst (λ (t : State). StepRecord Scarce n text (fed s n all kept) further t) (closed_is s n all later) out_does)
+
+  -- bytes that are too long close it
+  closes_long : (done bytes : List ℕ) (outs further : List OutFrame) (kept : Kept) (old end : Received) → UnderWay s n stream done outs kept old → GoesOn old bytes [] end → end.progress ≡ TooLong → further ≡ frame.Closed n ∷ []
+      → Closes_by (done ++ bytes) (outs ++ further) kept
+  closes_long done bytes outs further kept old end u goes long out payload rest more_fit parts =
       let read = goes (stream ++ done) (u.before ++ u.records) u.goes_on in
       let not_open : IsOpen end.progress → ⊥ = λ o. subst IsOpen long o in
       let rest_read = closed_reads_on ((stream ++ done) ++ bytes) rest ((u.before ++ u.records) ++ []) end.bytes end.progress read not_open in
@@ -223,49 +223,50 @@ module _ {S : Type 0} (g : Ghosts S) (s : State) (n : ℕ) (stream payload : Lis
       ap (λ (t : List ℕ). t ++ rest) (append_assoc stream done bytes) ∙ append_assoc stream (done ++ bytes) rest ∙ ap (λ (t : List ℕ). stream ++ t) (sym parts) in
       let whole_read : Reads (stream ++ payload) (u.before ++ u.records) end =
       subst (λ (t : List (List ℕ)). Reads (stream ++ payload) t end) (append-nil (u.before ++ u.records)) (subst (λ (t : List ℕ). Reads t ((u.before ++ u.records) ++ []) end) text_is rest_read) in
-      let closes : Closes n (under kept) further (closed s n kept) = (out, sym (closed_is s n (stream ++ payload) kept)) in
-      let step : StepProgress n end.progress (under kept) further (closed s n kept) =
-      subst (λ (p : Progress). StepProgress n p (under kept) further (closed s n kept)) (sym long) (where_open (Closes n) n (under kept) further (closed s n kept) (fed_open s n (stream ++ payload) kept lt) closes) in
-      (kept, r.0, (u.records, end, record { before = u.before; part = u.part; read = u.read; goes_on = whole_read }, (under kept, outs, further, u.handled, step, refl)), rises_same kept, r.1)
+      let at : State = fed s n (stream ++ payload) kept in
+      let closes : Closes n at further (closed s n kept) = (out, sym (closed_is s n (stream ++ payload) kept)) in
+      let step : StepProgress n end.progress at further (closed s n kept) =
+      subst (λ (p : Progress). StepProgress n p at further (closed s n kept)) (sym long) (where_open (Closes n) n at further (closed s n kept) (fed_open s n (stream ++ payload) kept lt) closes) in
+      (u.records, end, record { before = u.before; part = u.part; read = u.read; goes_on = whole_read }, (at, outs, further, u.handled (stream ++ payload), step, refl))
 
-  -- ---- it has a step, wherever it stands
+  pub under_way_closes : (done bytes : List ℕ) (outs further : List OutFrame) (kept : Kept) (before after : ServiceView) (d e : S) (old new : Received) (stays : Bool) → stays ≡ false → AreBytes stream
+      → ServesFor g before d (with_kept s kept) → UnderWay s n stream done outs kept old → Feeds g n before d old bytes further stays after e new → ClosesUnder kept d (done ++ bytes) (outs ++ further) after e
+  under_way_closes done bytes outs further kept before after d e old new stays holds fits serves u (more goes ready none is rests) = let f : true ≡ false = sym is ∙ holds in absurd cc
+  under_way_closes done bytes outs further kept before after d e old new stays holds fits serves u (answered text reply goes empty answers out is) =
+      let by = answers.each (with_kept s kept) serves in
+      let steps : (all : List ℕ) → StepRecords Scarce n (u.records ++ text ∷ []) (with_session s n (Open all)) (outs ++ further) (closed s n by.0) =
+      λ all. records_then Scarce n u.records (text ∷ []) (with_session s n (Open all)) outs (fed s n all kept) further (closed s n by.0) (u.handled all) (closes_record text reply further kept by.0 (sym is ∙ holds) out by.1 all) in
+      let read = goes (stream ++ done) (u.before ++ u.records) u.goes_on in
+      let text_read : Reads (stream ++ (done ++ bytes)) ((u.before ++ u.records) ++ text ∷ []) nothing = subst (λ (t : List ℕ). Reads t ((u.before ++ u.records) ++ text ∷ []) nothing) (append_assoc stream done bytes) read in
+      let got_read : Reads (stream ++ (done ++ bytes)) (u.before ++ (u.records ++ text ∷ [])) nothing = subst (λ (t : List (List ℕ)). Reads (stream ++ (done ++ bytes)) t nothing) (append_assoc u.before u.records (text ∷ [])) text_read in
+      (by.0, by.2, closed_ends (done ++ bytes) u.before (u.records ++ text ∷ []) u.part nothing (outs ++ further) by.0 fits u.read got_read steps, by.3)
+  under_way_closes done bytes outs further kept before after d e old new stays holds fits serves u (too_long end goes long out is rests) =
+      let r = rested kept before after d e rests serves in
+      (kept, r.0, closes_long done bytes outs further kept old end u goes long out, r.1)
 
-  under_way_ends : (done rest : List ℕ) (outs : List OutFrame) (kept : Kept) (received : Received) → AreBytes stream → AreBytes payload → payload ≡ done ++ rest → UnderWay s n stream payload done outs kept received
-      → (later : List OutFrame) × (new : State) × StepBytes Scarce (Open stream) n payload s (outs ++ later) new × Extends kept new.kept
-  under_way_ends done rest outs kept received fits more_fit e u =
+  -- ---- the whole payload has a step, wherever it stands
+
+  -- with answers that begin so
+  abbrev pub Ends : List ℕ → List OutFrame → Type 0
+  Ends payload outs = (rest : List OutFrame) × (last : State) × StepBytes Scarce (Open stream) n payload s (outs ++ rest) last
+
+  pub under_way_ends : (done rest payload : List ℕ) (outs : List OutFrame) (kept : Kept) (received : Received) → AreBytes stream → AreBytes payload → payload ≡ done ++ rest → UnderWay s n stream done outs kept received → Ends payload outs
+  under_way_ends done rest payload outs kept received fits more_fit e u =
       let c = completed stream payload done rest u.before u.records u.part received fits more_fit e u.read u.goes_on in
-      let first = records_some Scarce n c.later (under kept) in
+      let at : State = fed s n (stream ++ payload) kept in
+      let first = records_some Scarce n c.later at in
       let second = progress_some n c.end.progress first.1 in
-      let steps = records_then Scarce n u.records c.later begun outs (under kept) first.0 first.1 u.handled first.2 in (
-        first.0 ++ second.0,
-        second.1,
-        (u.records ++ c.later, c.end, c.completes, (first.1, outs ++ first.0, second.0, steps, second.2, sym (append_assoc outs first.0 second.0))),
-        extends_then kept first.1.kept second.1.kept (records_extend Scarce n c.later (under kept) first.0 first.1 first.2) (progress_extends Scarce n c.end.progress first.1 second.0 second.1 second.2),
-      )
+      let steps = records_then Scarce n u.records c.later (with_session s n (Open (stream ++ payload))) outs at first.0 first.1 (u.handled (stream ++ payload)) first.2 in
+      (first.0 ++ second.0, second.1, (u.records ++ c.later, c.end, c.completes, (first.1, outs ++ first.0, second.0, steps, second.2, sym (append_assoc outs first.0 second.0))))
 
-  pub under_way_fails : (done bytes rest : List ℕ) (outs further : List OutFrame) (kept : Kept) (before after : ServiceView) (d e : S) (old new : Received) (stays : Bool) → AreBytes stream → AreBytes payload
-      → payload ≡ (done ++ bytes) ++ rest → ServesFor g before d (with_kept s kept) → UnderWay s n stream payload done outs kept old → Feeds g n before d old bytes further stays after e new
-      → (later : List OutFrame) × (end : State) × StepBytes Scarce (Open stream) n payload s ((outs ++ further) ++ later) end × Extends kept end.kept × LeavesPrefix g d e kept.mark end.kept
-  under_way_fails done bytes rest outs further kept before after d e old new true fits more_fit parts serves u feeds =
-      let on = under_way_on done bytes outs further kept before after d e old new true refl serves u feeds in
-      let ends = under_way_ends (done ++ bytes) rest (outs ++ further) on.0 new fits more_fit parts on.2 in
-      (ends.0, ends.1, ends.2, extends_then kept on.0 ends.1.kept on.3.0 ends.3, leaves_on g d e kept.mark kept.mark on.0 ends.1.kept (omega arith) ends.3 on.4.leaves)
-  under_way_fails done bytes rest outs further kept before after d e old new false fits more_fit parts serves u feeds =
-      let h = under_way_closes done bytes rest outs further kept before after d e old new false refl fits more_fit parts serves u feeds in
-      ([], closed s n h.0, subst (λ (o : List OutFrame). StepBytes Scarce (Open stream) n payload s o (closed s n h.0)) (sym (append-nil (outs ++ further))) h.2, h.3.0, h.4.leaves)
+  -- ---- a call of the disk failed for a record
 
-  -- ---- a call of the disk failed for a record, with which the payload ends
-
-  pub under_way_down : (done bytes : List ℕ) (outs : List OutFrame) (kept : Kept) (before : ServiceView) (d e : S) (old : Received) → payload ≡ done ++ bytes
-      → ServesFor g before d (with_kept s kept) → UnderWay s n stream payload done outs kept old → FeedFails g before d old bytes e
-      → (last : OutFrame) × (end : State) × StepBytes Scarce (Open stream) n payload s (outs ++ last ∷ []) end × Extends kept end.kept × LeavesPrefix g d e kept.mark end.kept
-  under_way_down done bytes outs kept before d e old parts serves u f =
-      let by = f.fails.each (under kept) (serves_under before d kept serves) in
-      let does : StepRecord Scarce n f.text (under kept) (Reply n by.0 ∷ []) (under by.1) = record_does n f.text (Some by.0) (under kept) by.1 refl by.2 in
-      let on = further_under_way done bytes outs (Reply n by.0 ∷ []) kept by.1 old nothing (f.text ∷ []) u f.goes_on
-      (one_record n f.text (under kept) (Reply n by.0 ∷ []) (under by.1) (fed_open s n (stream ++ payload) kept lt) does) in
-      let rises = answer_rises (under kept) f.text (Some by.0) by.1 serves.kept.most by.2 in
-      (Reply n by.0, under by.1, under_way_whole (done ++ bytes) (outs ++ Reply n by.0 ∷ []) by.1 nothing on (sym parts) tt, rises.0, by.3)
+  pub under_way_down : (done bytes : List ℕ) (outs : List OutFrame) (kept : Kept) (before : ServiceView) (d e : S) (old : Received) → ServesFor g before d (with_kept s kept) → UnderWay s n stream done outs kept old → FeedFails g before d old bytes e
+      → (unsaid : OutFrame) × (later : Kept) × UnderWay s n stream (done ++ bytes) (outs ++ unsaid ∷ []) later nothing × LeavesPrefix g d e kept.mark later
+  under_way_down done bytes outs kept before d e old serves u f =
+      let by = f.fails.each (with_kept s kept) serves in
+      let unsaid : OutFrame = Reply n by.0 in
+      (unsaid, by.1, further_under_way done bytes outs (unsaid ∷ []) kept by.1 old nothing (f.text ∷ []) u f.goes_on (goes_by f.text (Some by.0) (unsaid ∷ []) kept by.1 refl refl by.2), by.3)
 
 -- ---- what the sink was given
 
@@ -273,13 +274,10 @@ pub frames_given : (a b c : Option (List ℕ)) (outs further : List OutFrame) �
 frames_given a b c outs further first second =
     subst (λ (bytes : List ℕ). Given a c bytes) (sym (flat_map-append out_frame outs further)) (Given-then a b c (out_frames outs) (out_frames further) first second)
 
-pub frames_given_part : (a b c : Option (List ℕ)) (outs further later : List OutFrame) → Given a b (out_frames outs) → GivenPart b c (out_frames further) → GivenPart a c (out_frames ((outs ++ further) ++ later))
-frames_given_part a b c outs further later first second =
-    let both = GivenPart-then a b c (out_frames outs) (out_frames further) first second in
-    let more_bytes = GivenPart-first a c (out_frames outs ++ out_frames further) (out_frames later) both in
-    let is : (out_frames outs ++ out_frames further) ++ out_frames later ≡ out_frames ((outs ++ further) ++ later) =
-    ap (λ (bytes : List ℕ). bytes ++ out_frames later) (sym (flat_map-append out_frame outs further)) ∙ sym (flat_map-append out_frame (outs ++ further) later) in
-    subst (λ (bytes : List ℕ). GivenPart a c bytes) is more_bytes
+-- all of some frames, and a prefix of further ones that is not all of them
+pub frames_given_part : (a b c : Option (List ℕ)) (outs further : List OutFrame) → Given a b (out_frames outs) → GivenPart b c (out_frames further)
+    → (kept : ℕ) × (kept < length (out_frames further)) × Given a c (out_frames outs ++ take kept (out_frames further))
+frames_given_part a b c outs further first second = (second.0, second.1, Given-then a b c (out_frames outs) (take second.0 (out_frames further)) first second.2)
 
 pub given_one : (a b : Option (List ℕ)) (f : OutFrame) → Given a b (out_frame f) → Given a b (out_frames (f ∷ []))
 given_one a b f given = subst (λ (bytes : List ℕ). Given a b bytes) (sym (append-nil (out_frame f))) given

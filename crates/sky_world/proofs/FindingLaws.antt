@@ -1,7 +1,7 @@
 -- Laws of what recovery finds of a disk that has the first changes of a history, beside a cloud that ends where the history begins.
 use Rattle.std.specs.Prelude.{max, is_some, IsTrue, ◌&&◌}
 use Rattle.std.specs.List.{AllByRecursion}
-use Rattle.std.proofs.Common.{◌≡◌, ℕ, ◌+◌, ◌-◌, ◌≤◌, zero, suc, Bool, true, false, Option, Some, None, Ok, List, [], ◌∷◌, map, take, length, inl, inr, ⊎_elim, refl, sym, ap, subst, ◌∙◌, arith}
+use Rattle.std.proofs.Common.{◌≡◌, ℕ, ◌+◌, ◌-◌, ◌<◌, ◌≤◌, zero, suc, Bool, true, false, Option, Some, None, Ok, List, [], ◌∷◌, map, take, length, inl, inr, ⊎_elim, refl, sym, ap, subst, ◌∙◌, arith}
 use Rattle.std.proofs.lemmas.List.{append-nil, length-take}
 use Rattle.sky_entry.specs.Entry.{entry_bytes}
 use Rattle.sky_journal.specs.Journal.{IsJournal, Reads, entries}
@@ -17,7 +17,7 @@ use Rattle.sky_outside.specs.declared.storage.Storage.{Ghosts}
 use Rattle.sky_outside.proofs.MomentLaws.{only_read}
 use Rattle.sky_outside.proofs.ToldLaws.{WhereTold-at, WhereTold-from}
 use Rattle.sky_recover.specs.Opening.{WhereBothTold}
-use Rattle.sky_sound.specs.Cloud.{checkpoint_in, cloud_tree, covers_of}
+use Rattle.sky_sound.specs.Cloud.{HasNoCheckpoint, cloud_tree, covers_of, epoch_after}
 use Rattle.sky_sound.specs.Entries.{change_of, changes_in, entries_above, is_of_change, journal_of, with_change}
 use Rattle.sky_sound.specs.Recovery.{FindsSame, IsSound, Recovered, history_from, history_of}
 use Rattle.sky_sound.proofs.Above.{above_yes, history_is, history_recovered}
@@ -79,19 +79,20 @@ legal_cut n history legal = record { valid = legal.valid; done = done_take (n - 
 
 -- ---- what is found
 
--- The objects of a cloud that ends where the history begins, and has no checkpoint of the proxy.
-pub record Begins (kept : Kept) (objects : CloudMap) : Type 0 where
-  pub no_checkpoint : checkpoint_in objects ≡ None
+-- The objects of a cloud that ends where the history begins, and has no checkpoint of the proxy; the next opening is in a later epoch than this.
+pub record Begins (epoch : ℕ) (kept : Kept) (objects : CloudMap) : Type 0 where
+  pub no_checkpoint : HasNoCheckpoint objects
   pub covers : kept.history.before ≡ covers_of objects
   pub tree : kept.history.tree ≡ cloud_tree kept.journal.volume objects
+  pub later_epoch : epoch < epoch_after objects
 
-pub begins_at : (state : State) (objects : CloudMap) → IsBeside state objects → Begins state.kept objects
-begins_at state objects is = record { no_checkpoint = is.no_checkpoint; covers = is.covers; tree = is.tree }
+pub begins_at : (state : State) (objects : CloudMap) → IsBeside state objects → Begins state.epoch state.kept objects
+begins_at state objects is = record { no_checkpoint = is.no_checkpoint; covers = is.covers; tree = is.tree; later_epoch = omega (arith, is.epoch) }
 
 -- an image that reads as the first n changes stands for the history up to them
-pub history_at : (kept : Kept) (n : ℕ) (image : List ℕ) (objects : CloudMap) → ReadsAsPrefix kept n image → AreStorable (cut_to n kept.history).changes → Begins kept objects
+pub history_at : (epoch : ℕ) (kept : Kept) (n : ℕ) (image : List ℕ) (objects : CloudMap) → ReadsAsPrefix kept n image → AreStorable (cut_to n kept.history).changes → Begins epoch kept objects
     → history_of kept.journal.volume kept.journal.size image objects ≡ Ok (cut_to n kept.history)
-history_at kept n image objects read storable begins =
+history_at epoch kept n image objects read storable begins =
     let h = kept.history in
     let j = kept.journal in
     let cs : List Change = take (n - h.before) h.changes in
@@ -106,13 +107,13 @@ history_at kept n image objects read storable begins =
     history_is j.volume j.size image objects list said ∙ ap (λ (x : History). let r : Read History = Ok x in r) same
 
 -- recovery finds them
-pub finds_at : (floor : ℕ) (kept : Kept) (image : List ℕ) (objects : CloudMap) → HoldsPrefix floor kept image → IsLegalHistory kept.history → Begins kept objects → FindsPrefix floor kept image objects
-finds_at floor kept image objects holds legal begins =
+pub finds_at : (epoch floor : ℕ) (kept : Kept) (image : List ℕ) (objects : CloudMap) → HoldsPrefix floor kept image → IsLegalHistory kept.history → Begins epoch kept objects → FindsPrefix epoch floor kept image objects
+finds_at epoch floor kept image objects holds legal begins =
     let h = kept.history in
     let j = kept.journal in
     let n : ℕ = holds.0 in
     let m : ℕ = max n h.before in
-    let is : history_of j.volume j.size image objects ≡ Ok (cut_to n h) = history_at kept n image objects holds.3 holds.4 begins in
+    let is : history_of j.volume j.size image objects ≡ Ok (cut_to n h) = history_at epoch kept n image objects holds.3 holds.4 begins in
     let long : h.before + length (take (n - h.before) h.changes) ≡ m = omega (arith, length-take (n - h.before) h.changes, holds.2) in
     let there : n - h.before ≡ m - h.before = omega arith in
     let first : Recovered = record { length = history_length (cut_to n h); tree = last_tree (cut_to n h) } in
@@ -124,6 +125,7 @@ finds_at floor kept image objects holds legal begins =
       most = omega (arith, holds.2);
       sound = record { no_checkpoint = begins.no_checkpoint; history = cut_to n h; stands_for = is; legal = legal_cut n h legal };
       found = history_recovered j.volume j.size image objects (cut_to n h) is ∙ ap (λ (x : Recovered). let r : Read Recovered = Ok x in r) same;
+      later_epoch = begins.later_epoch;
     }
 
 -- ---- at any moment
@@ -147,16 +149,16 @@ pub both_told_at : {S : Type 0} (g : Ghosts S) (s : S) (P : List ℕ → CloudMa
 both_told_at g s P image objects is held holds =
     WhereTold-at (g.objects s) (P image) objects held (WhereTold-at (g.image s) (λ i. WhereTold (g.objects s) (P i)) image is holds)
 
-pub leaves_finding : {S : Type 0} (g : Ghosts S) (s t : S) (floor : ℕ) (kept : Kept) → IsLegalHistory kept.history → WhereTold (g.objects s) (Begins kept) → LeavesPrefix g s t floor kept
-    → LeavesFinding g s t floor kept
-leaves_finding g s t floor kept legal beside leaves =
-    both_told_from g s (λ image objects. LeavesOnly g s t (FindsPrefix floor kept))
+pub leaves_finding : {S : Type 0} (g : Ghosts S) (s t : S) (epoch floor : ℕ) (kept : Kept) → IsLegalHistory kept.history → WhereTold (g.objects s) (Begins epoch kept) → LeavesPrefix g s t floor kept
+    → LeavesFinding g s t epoch floor kept
+leaves_finding g s t epoch floor kept legal beside leaves =
+    both_told_from g s (λ image objects. LeavesOnly g s t (FindsPrefix epoch floor kept))
     (λ image objects is held.
-    leaves_as g s t (BesideObjects g s (HoldsPrefix floor kept)) (FindsPrefix floor kept)
+    leaves_as g s t (BesideObjects g s (HoldsPrefix floor kept)) (FindsPrefix epoch floor kept)
     (λ left now p.
     let same : now ≡ objects = WhereTold-at (g.objects s) (λ told. now ≡ told) objects held p.1 in
-    let begins : Begins kept objects = WhereTold-at (g.objects s) (Begins kept) objects held beside in
-    finds_at floor kept left now p.0 legal (subst (λ (o : CloudMap). Begins kept o) (sym same) begins))
+    let begins : Begins epoch kept objects = WhereTold-at (g.objects s) (Begins epoch kept) objects held beside in
+    finds_at epoch floor kept left now p.0 legal (subst (λ (o : CloudMap). Begins epoch kept o) (sym same) begins))
     (WhereTold-at (g.image s) (λ r. LeavesOnly g s t (BesideObjects g s (HoldsPrefix floor kept))) image is leaves))
 
 -- ---- now
@@ -177,34 +179,34 @@ module _ {S : Type 0} (g : Ghosts S) (kept : Kept) (s : S) (on : IsKeptOn g kept
   holds_read image is =
       (kept.mark, omega arith, on.most, has_prefix kept image on.is (WhereTold-at (g.image s) (HasKept kept) image is on.has), storable_take (kept.mark - kept.history.before) kept.history.changes on.storable)
 
-  pub finds_now : IsLegalHistory kept.history → WhereTold (g.objects s) (Begins kept) → FindsNow g s kept
-  finds_now legal beside =
-      both_told_from g s (λ read held. (image : List ℕ) (objects : CloudMap) → MayLeaveNow g s image objects → FindsPrefix kept.mark kept image objects)
+  pub finds_now : (epoch : ℕ) → IsLegalHistory kept.history → WhereTold (g.objects s) (Begins epoch kept) → FindsNow g s epoch kept
+  finds_now epoch legal beside =
+      both_told_from g s (λ read held. (image : List ℕ) (objects : CloudMap) → MayLeaveNow g s image objects → FindsPrefix epoch kept.mark kept image objects)
       (λ read held is told image objects now.
       let same : image ≡ read = only_read g s read is on.durable image now.0 in
       let beside_is : objects ≡ held = WhereTold-at (g.objects s) (λ o. objects ≡ o) held told now.1 in
-      let found : FindsPrefix kept.mark kept read held = finds_at kept.mark kept read held (holds_read read is) legal (WhereTold-at (g.objects s) (Begins kept) held told beside) in
-      subst (λ (i : List ℕ). FindsPrefix kept.mark kept i objects) (sym same) (subst (λ (o : CloudMap). FindsPrefix kept.mark kept read o) (sym beside_is) found))
+      let found : FindsPrefix epoch kept.mark kept read held = finds_at epoch kept.mark kept read held (holds_read read is) legal (WhereTold-at (g.objects s) (Begins epoch kept) held told beside) in
+      subst (λ (i : List ℕ). FindsPrefix epoch kept.mark kept i objects) (sym same) (subst (λ (o : CloudMap). FindsPrefix epoch kept.mark kept read o) (sym beside_is) found))
 
 -- ---- a world that stands for a state
 
 module _ {S : Type 0} (g : Ghosts S) (w : WorldView) (s : S) (state : State) (stands : Stands g w s state) where
-  pub stands_begins : WhereTold (g.objects s) (Begins state.kept)
+  pub stands_begins : WhereTold (g.objects s) (Begins state.epoch state.kept)
   stands_begins =
-      WhereTold-from (g.objects s) (Begins state.kept)
+      WhereTold-from (g.objects s) (Begins state.epoch state.kept)
       (λ objects held. begins_at state objects (WhereTold-at (g.objects s) (IsBeside state) objects held stands.recoverable.cloud))
 
   -- recovery would find the changes up to the mark
-  pub stands_find : FindsNow g s state.kept
-  stands_find = finds_now g state.kept s stands.service.kept stands.recoverable.legal stands_begins
+  pub stands_find : FindsNow g s state.epoch state.kept
+  stands_find = finds_now g state.kept s stands.service.kept state.epoch stands.recoverable.legal stands_begins
 
   -- a site that tells what it has stands for the history up to the mark, and is sound
   pub stands_history : (image : List ℕ) (objects : CloudMap) → g.image s ≡ Some image → g.objects s ≡ Some objects
       → history_of state.kept.journal.volume state.kept.journal.size image objects ≡ Ok (cut_to state.kept.mark state.kept.history)
   stands_history image objects is held =
       let on = stands.service.kept in
-      history_at state.kept state.kept.mark image objects (has_prefix state.kept image on.is (WhereTold-at (g.image s) (HasKept state.kept) image is on.has))
-      (storable_take (state.kept.mark - state.kept.history.before) state.kept.history.changes on.storable) (WhereTold-at (g.objects s) (Begins state.kept) objects held stands_begins)
+      history_at state.epoch state.kept state.kept.mark image objects (has_prefix state.kept image on.is (WhereTold-at (g.image s) (HasKept state.kept) image is on.has))
+      (storable_take (state.kept.mark - state.kept.history.before) state.kept.history.changes on.storable) (WhereTold-at (g.objects s) (Begins state.epoch state.kept) objects held stands_begins)
 
   pub stands_sound : (image : List ℕ) (objects : CloudMap) → g.image s ≡ Some image → g.objects s ≡ Some objects → IsSound state.kept.journal.volume state.kept.journal.size image objects
   stands_sound image objects is held = record {
@@ -217,6 +219,13 @@ module _ {S : Type 0} (g : Ghosts S) (w : WorldView) (s : S) (state : State) (st
 -- ---- what is found stays
 
 -- what recovery finds the same of as of a prefix is that prefix
-pub finds_same : (floor : ℕ) (kept : Kept) (image : List ℕ) (objects : CloudMap) (left : List ℕ) (held : CloudMap) → FindsPrefix floor kept image objects
-    → FindsSame kept.journal.volume kept.journal.size image objects left held → FindsPrefix floor kept left held
-finds_same floor kept image objects left held found same = record { n = found.n; least = found.least; most = found.most; sound = same.sound; found = same.same ∙ found.found }
+pub finds_same : (epoch floor : ℕ) (kept : Kept) (image : List ℕ) (objects : CloudMap) (left : List ℕ) (held : CloudMap) → FindsPrefix epoch floor kept image objects
+    → FindsSame kept.journal.volume kept.journal.size image objects left held → FindsPrefix epoch floor kept left held
+finds_same epoch floor kept image objects left held found same = record {
+  n = found.n;
+  least = found.least;
+  most = found.most;
+  sound = same.sound;
+  found = same.same ∙ found.found;
+  later_epoch = omega (arith, found.later_epoch, same.epoch);
+}

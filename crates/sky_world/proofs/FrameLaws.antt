@@ -114,8 +114,8 @@ bytes_one Closed n payload s a b t u p q = passes_one s a b t u p q
 -- a restart of a site that tells what it has finds one thing
 restarts_one : (known : Found) (s : State) (a b : List OutFrame) (t u : State) → s.told ≡ true → Restarts s known a t → Restarts s known b u → (a ≡ b) × (t ≡ u)
 restarts_one known s a b t u told (as_known x p) (as_known y q) = both s a b (opening known ∷ []) t u (record (start s.told known) { moment = s.moment }) p q
-restarts_one known s a b t u told (untold found silent legal volume same_volume same_size p) other = absurd (true≢false (sym told ∙ silent))
-restarts_one known s a b t u told (as_known x p) (untold found silent legal volume same_volume same_size q) = absurd (true≢false (sym told ∙ silent))
+restarts_one known s a b t u told (untold found silent may p) other = absurd (true≢false (sym told ∙ silent))
+restarts_one known s a b t u told (as_known x p) (untold found silent may q) = absurd (true≢false (sym told ∙ silent))
 
 pub step_one : (old : State) (f : InFrame) (outs others : List OutFrame) (new other : State) → IsForeseen old.told f → Step Ample old f outs new → Step Ample old f others other → (outs ≡ others) × (new ≡ other)
 step_one old (frame.Begin n) a b t u seen p q = both old a b [] t u (with_session old n (Open [])) p q

@@ -106,7 +106,7 @@ found_marked found = record { least = omega arith; most = omega arith }
 
 restart_marked : (old : State) (known : Found) (outs : List OutFrame) (new : State) → Restarts old known outs new → IsMarked new.kept
 restart_marked old known outs new (as_known told is) = subst (λ (s : State). IsMarked s.kept) (sym is.1) (found_marked known)
-restart_marked old known outs new (untold found not_told legal volume same_volume same_size is) = subst (λ (s : State). IsMarked s.kept) (sym is.1) (found_marked found)
+restart_marked old known outs new (untold found not_told may is) = subst (λ (s : State). IsMarked s.kept) (sym is.1) (found_marked found)
 
 pub step_marked : (mem : Memory) (old new : State) (f : InFrame) (outs : List OutFrame) → Step mem old f outs new → IsMarked old.kept → IsMarked new.kept
 step_marked mem old new (frame.Begin n) outs step marked = (step_stays_marked mem old new (frame.Begin n) outs (λ r. r) step marked).1

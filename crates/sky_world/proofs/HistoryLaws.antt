@@ -9,7 +9,7 @@ use Rattle.sky_nfs.specs.Tree.{Tree}
 use Rattle.sky_calls.specs.Durable.{journal_after}
 use Rattle.sky_calls.specs.Stable.{is_stable_call}
 use Rattle.sky_entry.specs.Entry.{entry_bytes}
-use Rattle.sky_journal.specs.Journal.{JournalView, after_commit}
+use Rattle.sky_journal.specs.Journal.{JournalView, after_commit, wiped}
 use Rattle.sky_nfs.specs.declared.call.Call.{Call}
 use Rattle.sky_nfs.specs.declared.call.Change.{Change}
 use Rattle.sky_record.specs.Stream.{Progress, AtHeader, InFragment, Whole, TooLong}
@@ -81,27 +81,27 @@ module _ (h : History) (cred : Cred) (call : Call) (moment : Moment) where
       go true e = rw e (legal_with h change e legal)
       go false e = rw e legal
 
--- the history goes on, in a journal of the same volume and size, with the same older area
+-- the history goes on, in a journal of the same volume and size
 abbrev pub GoesOnIn : Kept → Kept → Type 0
-GoesOnIn k l = GoesOnFrom k.history l.history × (l.journal.volume ≡ k.journal.volume) × (l.journal.size ≡ k.journal.size) × (l.journal.older ≡ k.journal.older)
+GoesOnIn k l = GoesOnFrom k.history l.history × (l.journal.volume ≡ k.journal.volume) × (l.journal.size ≡ k.journal.size)
 
 journal_same : (done stable makes : Bool) (j : JournalView) (e : List ℕ)
-    → (let k : JournalView = cond done (journal_after stable j e) (cond makes (after_commit j) j) in (k.volume ≡ j.volume) × (k.size ≡ j.size) × (k.older ≡ j.older))
-journal_same true true makes j e = (refl, refl, refl)
-journal_same true false makes j e = (refl, refl, refl)
-journal_same false stable true j e = (refl, refl, refl)
-journal_same false stable false j e = (refl, refl, refl)
+    → (let k : JournalView = cond done (journal_after stable j e) (cond makes (after_commit j) j) in (k.volume ≡ j.volume) × (k.size ≡ j.size))
+journal_same true true makes j e = (refl, refl)
+journal_same true false makes j e = (refl, refl)
+journal_same false stable true j e = (refl, refl)
+journal_same false stable false j e = (refl, refl)
 
 pub call_goes_on_in : (kept : Kept) (change : Change) → GoesOnIn kept (kept_after kept change)
 call_goes_on_in kept change =
     let same = journal_same (is_done (last_tree kept.history) change) (is_stable_call change.call) (makes_stable (last_tree kept.history) change.cred change.call) kept.journal (entry_bytes change) in
-    (call_goes_on kept.history change.cred change.call change.moment, same.0, same.1, same.2)
+    (call_goes_on kept.history change.cred change.call change.moment, same.0, same.1)
 
 kept_goes_on : (h k : Kept) → k ≡ h → GoesOnIn h k
-kept_goes_on h k e = (goes_on_same h.history k.history (ap (λ (x : Kept). x.history) e), ap (λ (x : Kept). x.journal.volume) e, ap (λ (x : Kept). x.journal.size) e, ap (λ (x : Kept). x.journal.older) e)
+kept_goes_on h k e = (goes_on_same h.history k.history (ap (λ (x : Kept). x.history) e), ap (λ (x : Kept). x.journal.volume) e, ap (λ (x : Kept). x.journal.size) e)
 
 kept_goes_then : (h k l : Kept) → GoesOnIn h k → GoesOnIn k l → GoesOnIn h l
-kept_goes_then h k l p q = (goes_on_then h.history k.history l.history p.0 q.0, q.1 ∙ p.1, q.2 ∙ p.2, q.3 ∙ p.3)
+kept_goes_then h k l p q = (goes_on_then h.history k.history l.history p.0 q.0, q.1 ∙ p.1, q.2 ∙ p.2)
 
 message_goes_on : (s : State) (m : Message) → GoesOnIn s.kept (after_message s m)
 message_goes_on s message.Close = kept_goes_on s.kept s.kept refl
@@ -197,9 +197,9 @@ legal_leads mem old f outs new plain step =
     step_leads StaysLegal (λ h k e legal. subst (λ (x : Kept). IsLegalHistory x.history) (sym e) legal) (λ h k l p q legal. q (p legal)) message_legal mem old f outs new plain step
 
 -- the history that a restart finds is legal
-restart_legal : (old : State) (n : ℕ) (outs : List OutFrame) (new : State) → Restarts old (found_to n old) outs new → IsLegalHistory old.kept.history → IsLegalHistory new.kept.history
-restart_legal old n outs new (as_known told is) legal = subst (λ (s : State). IsLegalHistory s.kept.history) (sym is.1) (cut_legal n old.kept.history legal)
-restart_legal old n outs new (untold found not_told found_legal volume same_volume same_size is) legal = subst (λ (s : State). IsLegalHistory s.kept.history) (sym is.1) found_legal
+restart_legal : (old : State) (n : ℕ) (read : JournalView) (outs : List OutFrame) (new : State) → Restarts old (found_to n read old) outs new → IsLegalHistory old.kept.history → IsLegalHistory new.kept.history
+restart_legal old n read outs new (as_known told is) legal = subst (λ (s : State). IsLegalHistory s.kept.history) (sym is.1) (cut_legal n old.kept.history legal)
+restart_legal old n read outs new (untold found not_told may is) legal = subst (λ (s : State). IsLegalHistory s.kept.history) (sym is.1) may.legal
 
 pub step_legal : (mem : Memory) (old new : State) (f : InFrame) (outs : List OutFrame) → Step mem old f outs new → IsLegalHistory old.kept.history → IsLegalHistory new.kept.history
 step_legal mem old new (frame.Begin n) outs step = legal_leads mem old (frame.Begin n) outs new (λ r. r) step
@@ -207,8 +207,8 @@ step_legal mem old new (frame.Bytes n payload) outs step = legal_leads mem old (
 step_legal mem old new (frame.Close n) outs step = legal_leads mem old (frame.Close n) outs new (λ r. r) step
 step_legal mem old new (frame.SetMoment at) outs step = legal_leads mem old (frame.SetMoment at) outs new (λ r. r) step
 step_legal mem old new frame.Stat outs step = legal_leads mem old frame.Stat outs new (λ r. r) step
-step_legal mem old new frame.Restart outs step = restart_legal old old.kept.mark outs new step
-step_legal mem old new frame.RestartWithoutJournal outs step = restart_legal old old.kept.history.before outs new step
+step_legal mem old new frame.Restart outs step = restart_legal old old.kept.mark old.kept.journal outs new step
+step_legal mem old new frame.RestartWithoutJournal outs step = restart_legal old old.kept.history.before (wiped old.kept.journal) outs new step
 step_legal mem old new frame.End outs step = absurd step
 
 -- ---- want of memory

@@ -15,9 +15,9 @@ pub mod RestartLaws
 pub mod RecoverableLaws
 pub mod FeedLaws
 pub mod ReplyLaws
+pub mod WithinLaws
 pub mod PayloadLaws
 pub mod FindingLaws
-pub mod OnceLaws
 pub mod ReopenLaws
 pub mod WipeLaws
 pub mod RefuseLaws

@@ -1,6 +1,6 @@
 -- Laws of a frame's outcome: what was done and written, by its status.
 use Rattle.std.specs.Prelude.{IfErr, IsErrOf, replicate}
-use Rattle.std.proofs.Common.{◌≡◌, ◌⊎◌, ℕ, false, Result, Ok, Err, inl, inr, ⊎_elim, refl, sym, ap, subst, ◌∙◌}
+use Rattle.std.proofs.Common.{◌≡◌, ◌⊎◌, ℕ, Result, Ok, Err, inl, inr, ⊎_elim, refl, sym, ap, subst, ◌∙◌}
 use Rattle.sky_base.specs.declared.status.Status.{Status}
 use Rattle.sky_base.specs.declared.status.Status.TheVariants.{CloudFault, JournalFault, Memory, SinkFault}
 use Rattle.sky_nfs.specs.History.{last_tree}
@@ -111,7 +111,7 @@ again_same old mid found settings ended moment = λ k. record {
   ended = ended k;
 }
 
-module _ {S : Type 0} (g : Ghosts S) (old new : WorldView) (s t : S) (said : OutFrame) (bytes : g.bytes_of t ≡ g.bytes_of s) (up : old.service.journal.down ≡ false) (sink : SinkGot) where
+module _ {S : Type 0} (g : Ghosts S) (old new : WorldView) (s t : S) (said : OutFrame) (sink : SinkGot) where
   -- it can answer calls
   pub serves_again : (found : Found) → IsOpenOn g t found → new ≡ reopened_world old found → IsServing g new.service t
   serves_again found opens same =
@@ -128,17 +128,17 @@ module _ {S : Type 0} (g : Ghosts S) (old new : WorldView) (s t : S) (said : Out
     pub restart_ok : Given sink.before sink.after (out_frame said) → Stepped g old s Restart new t sink
     restart_ok given =
         subst (λ (w : WorldView). Stepped g old s Restart w t sink) (sym again.3)
-        (stepped_restart g old s t again.0 again.2 bytes up sink again.1 claims images leaves (given_as again.0 again.4 given))
+        (stepped_restart g old s t again.0 again.2 sink again.1 claims images leaves (given_as again.0 again.4 given))
 
     pub restart_part : GivenPart sink.before sink.after (out_frame said) → SteppedPart g old s Restart t sink
-    restart_part given = stepped_restart_part g old s t again.0 again.2 bytes up sink again.1 claims images leaves (part_as again.0 again.4 given)
+    restart_part given = stepped_restart_part g old s t again.0 again.2 sink again.1 claims images leaves (part_as again.0 again.4 given)
 
   module _ (m : S) (wipes : LeavesWiped g old.service.journal s m) (holds : HoldsNone g old.service.journal s m) (beside : SameCloud g s m) (again : Reopened g old m new t said)
       (claims : BothTold (λ old new. new ≡ claimed old) (g.objects m) (g.objects t)) (images : BothTold (λ old new. Unit {0}) (g.image m) (g.image t)) (leaves : LeavesFound g old.settings.volume old.settings.journal_area m t) where
     pub bare_ok : Given sink.before sink.after (out_frame said) → Stepped g old s RestartWithoutJournal new t sink
     bare_ok given =
         subst (λ (w : WorldView). Stepped g old s RestartWithoutJournal w t sink) (sym again.3)
-        (stepped_bare g old s t again.0 again.2 bytes up sink m wipes holds beside again.1 claims images leaves (given_as again.0 again.4 given))
+        (stepped_bare g old s t again.0 again.2 sink m wipes holds beside again.1 claims images leaves (given_as again.0 again.4 given))
 
     pub bare_part : GivenPart sink.before sink.after (out_frame said) → SteppedPart g old s RestartWithoutJournal t sink
-    bare_part given = stepped_bare_part g old s t again.0 again.2 bytes up sink m wipes holds beside again.1 claims images leaves (part_as again.0 again.4 given)
+    bare_part given = stepped_bare_part g old s t again.0 again.2 sink m wipes holds beside again.1 claims images leaves (part_as again.0 again.4 given)

@@ -46,10 +46,11 @@ done_at : (t : Tree) (xs : List Change) (c : Change) (ys : List Change) → are_
 done_at t [] c ys all = (and_parts (is_done t c) (are_done (tree_after_change t c) ys) all).0
 done_at t (x ∷ xs) c ys all = done_at (tree_after_change t x) xs c ys (and_parts (is_done t x) (are_done (tree_after_change t x) (xs ++ c ∷ ys)) all).1
 
-none_fail : (start : Tree) (list : List (ℕ × List ℕ)) (image : List ℕ) (at : ℕ) → are_done start (changes_in list) ≡ true → FailsAt start list image at → ⊥
-none_fail start list image at all fails =
+none_fail : (start : Tree) (size covers : ℕ) (list : List (ℕ × List ℕ)) (image : List ℕ) (at : ℕ) → are_done start (changes_in (entries_above covers list)) ≡ true
+    → FailsAt start size covers list image at → ⊥
+none_fail start size covers list image at all fails =
     let c : Change = fails.refused.change in
-    let split : changes_in list ≡ changes_in fails.before ++ c ∷ changes_in fails.behind =
+    let split : changes_in (entries_above covers list) ≡ changes_in fails.before ++ c ∷ changes_in fails.behind =
     ap (λ (l : List (ℕ × List ℕ)). changes_in l) fails.parts ∙ changes_split fails.before fails.entry fails.behind c fails.refused.change_is in
     let done : is_done (tree_after_changes start (changes_in fails.before)) c ≡ true =
     done_at start (changes_in fails.before) c (changes_in fails.behind) (ap (λ (l : List Change). are_done start l) (sym split) ∙ all) in
@@ -66,7 +67,7 @@ not_foreign volume size image objects at sound (inr p) =
     let found = history_from_entries volume size image objects sound.history sound.stands_for in
     let same : found.0 ≡ p.0 = ok_same found.0 p.0 (journal_of volume size covers image) found.1 p.1 in
     let all : are_done tree (changes_in (entries_above covers found.0)) ≡ true = ap (λ (h : History). are_done h.tree h.changes) found.2 ∙ sound.legal.done in
-    none_fail tree (entries_above covers p.0) image at (ap (λ (l : List (ℕ × List ℕ)). are_done tree (changes_in (entries_above covers l))) (sym same) ∙ all) p.2
+    none_fail tree size covers p.0 image at (ap (λ (l : List (ℕ × List ℕ)). are_done tree (changes_in (entries_above covers l))) (sym same) ∙ all) p.2
 
 -- ---- what may be refused
 

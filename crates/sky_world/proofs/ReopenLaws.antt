@@ -1,15 +1,13 @@
 -- Laws of an opening: the world over what was found stands for it, and a restart finds what the state before it says.
-use Rattle.std.specs.Prelude.{cond, drop, replicate, is_some, nat_lt, ◌&&◌, IfSome}
-use Rattle.std.proofs.Common.{◌≡◌, ℕ, ◌+◌, ◌-◌, ◌<◌, ◌≤◌, zero, suc, Bool, true, false, Option, Some, None, Ok, List, [], ◌∷◌, ◌++◌, map, take, length, get_or, ⊎_elim, refl, sym, ap, subst, ◌∙◌, arith}
-use Rattle.std.proofs.lemmas.Bool.{and_parts, cases_Bool, cases_lt, ltb-true, ltb-false}
-use Rattle.std.proofs.lemmas.List.{append-nil, drop_all, length-append, length-map, length-replicate, length-take, take_all}
+use Rattle.std.specs.Prelude.{drop, replicate, is_some, ◌&&◌}
+use Rattle.std.proofs.Common.{◌≡◌, ℕ, ◌+◌, ◌-◌, ◌≤◌, zero, suc, Bool, true, false, Option, Some, None, Ok, List, [], ◌∷◌, ◌++◌, map, take, length, get_or, ⊎_elim, refl, sym, ap, subst, ◌∙◌, arith}
+use Rattle.std.proofs.lemmas.Bool.{and_parts, cases_Bool}
+use Rattle.std.proofs.lemmas.List.{drop_all, length-replicate, take_all}
 use Rattle.sky_base.specs.declared.moment.Moment.{Moment}
 use Rattle.sky_entry.specs.Entry.{entry_bytes}
-use Rattle.sky_journal.specs.Journal.{JournalView, SameButSpare, entries, new_area, number_behind, numbered_in}
+use Rattle.sky_journal.specs.Journal.{JournalView, IsJournal, SameButSpare, StandsFor, first_base}
 use Rattle.sky_journal.specs.Text.{numbered}
-use Rattle.sky_journal.specs.declared.open_area.OpenArea.{OpenArea}
-use Rattle.sky_journal.proofs.AreaWords.{numbered-length}
-use Rattle.sky_nfs.specs.History.{History, IsLegalHistory, history_length, last_tree}
+use Rattle.sky_nfs.specs.History.{History, IsLegalHistory, last_tree}
 use Rattle.sky_nfs.specs.Tree.{epoch_start}
 use Rattle.sky_nfs.specs.declared.call.Change.{Change}
 use Rattle.sky_outside.specs.CloudMap.{CloudMap}
@@ -17,23 +15,24 @@ use Rattle.sky_outside.specs.Moments.{LeavesOnly}
 use Rattle.sky_outside.specs.Told.{BothTold, WhereTold}
 use Rattle.sky_outside.specs.declared.storage.Storage.{Ghosts}
 use Rattle.sky_outside.proofs.ToldLaws.{WhereTold-at, WhereTold-from}
-use Rattle.sky_recover.specs.Opening.{BeginsAt, Found, HasEntries, IsFoundOn, IsOpenOn, KeepsAreas, LeavesFound}
+use Rattle.sky_recover.specs.Opening.{BeginsAt, Found, HasEntries, IsFoundOn, IsLeftOf, IsOpenOn, IsReadOn, LeavesFound}
+use Rattle.sky_recover.proofs.OneWay.{left_as_read}
 use Rattle.sky_script.specs.Frame.{session_count}
 use Rattle.sky_settings.specs.declared.settings.Fields.{Fields}
 use Rattle.sky_sound.specs.Boot.{claimed}
-use Rattle.sky_sound.specs.Cloud.{checkpoint_in, cloud_tree, covers_of, epoch_after}
+use Rattle.sky_sound.specs.Cloud.{HasNoCheckpoint, checkpoint_in, cloud_tree, covers_of, epoch_after}
 use Rattle.sky_sound.specs.Recovery.{FindsSame, IsSound, history_of}
 use Rattle.sky_sound.proofs.Claims.{checkpoint_in-claimed, epoch_after-claimed}
+use Rattle.sky_sound.specs.Settled.{settled}
 use Rattle.sky_sound.proofs.Texts.{ok_same}
 use Rattle.sky_world.specs.declared.sessions.Session.TheVariants.{Absent}
-use Rattle.sky_world.specs.Disk.{AreStorable, HasKept, IsKeptOn, entries_to}
+use Rattle.sky_world.specs.Disk.{AreStorable, HasKept, IsKeptOn}
 use Rattle.sky_world.specs.Finding.{FindsPrefix, LeavesFinding}
 use Rattle.sky_world.specs.Meaning as meaning
-use Rattle.sky_world.specs.Meaning.{Kept, State, Restarts, as_known, untold, begun_behind, cut_to, found_to, kept_found, kept_of, opening, start, unpended}
+use Rattle.sky_world.specs.Meaning.{Kept, State, Restarts, as_known, untold, cut_to, found_to, kept_found, kept_of, opening, start}
 use Rattle.sky_world.specs.Opening.{opened_world, reopened_world}
 use Rattle.sky_world.specs.World.{IsBeside, IsRecoverable, Stands, WorldView, tells}
 use Rattle.sky_world.proofs.FindingLaws.{Begins, both_told_at, both_told_from, finds_at, finds_same, holds_read, leaves_as, stands_begins, stands_history, stands_sound}
-use Rattle.sky_world.proofs.OnceLaws.{journal_once}
 
 -- ---- what sites tell
 
@@ -81,7 +80,7 @@ with_spare spare found = record found { journal = record found.journal { spare =
 
 -- a cloud in which the epoch of what was found is claimed
 pub record IsClaimed (volume : ℕ) (found : Found) (objects : CloudMap) : Type 0 where
-  pub no_checkpoint : checkpoint_in objects ≡ None
+  pub no_checkpoint : HasNoCheckpoint objects
   pub before : found.history.before ≡ covers_of objects
   pub tree : found.history.tree ≡ cloud_tree volume objects
   pub epoch : epoch_after objects ≡ found.epoch + 1
@@ -161,13 +160,6 @@ module _ {S : Type 0} (g : Ghosts S) (volume size : ℕ) (told : Bool) (t : S) (
             });
       }
 
-  -- no area is open whose changes are all covered
-  areas_uncovered : IfSome known.journal.older (λ a. known.history.before < a.last)
-  areas_uncovered =
-      ⊎_elim (λ (lt : known.history.before < history_length known.history). new.opens.uncovered lt)
-      (λ (le : history_length known.history ≤ known.history.before). subst (λ (o : Option OpenArea). IfSome o (λ a. known.history.before < a.last)) (sym (new.opens.begun le).0) tt)
-      (cases_lt known.history.before (history_length known.history))
-
   recoverable_open : (moment : Moment) → IsRecoverable g (record (start told known) { moment = moment }) t
   recoverable_open moment = record {
     told = new.told_is;
@@ -178,8 +170,6 @@ module _ {S : Type 0} (g : Ghosts S) (volume size : ℕ) (told : Bool) (t : S) (
         (λ objects held.
         let c = WhereTold-at (g.objects t) (IsClaimed volume (with_spare spare known)) objects held new.cloud in
         record { no_checkpoint = c.no_checkpoint; covers = c.before; tree = c.tree ∙ ap (λ (v : ℕ). cloud_tree v objects) (sym new.journal); epoch = c.epoch });
-    uncovered = areas_uncovered;
-    begun = λ le. new.opens.begun le;
   }
 
   -- the world over what was found stands for it
@@ -211,73 +201,22 @@ stands_started g settings s t found is opens claims images =
 
 -- ---- what is known to be found
 
--- the journal is the one that is known, but for its memory
-reopened_is : (b : Bool) (covers : ℕ) (j k : JournalView) → k.volume ≡ j.volume → k.size ≡ j.size → k.disk ≡ j.disk → k.pending ≡ [] → k.down ≡ j.down
-    → (b ≡ true → (k.older ≡ j.older) × (k.newer ≡ j.newer)) → (b ≡ false → (k.older ≡ None) × (k.newer ≡ Some (new_area 0 covers)))
-    → SameButSpare (cond b (unpended j) (begun_behind covers j)) k
-reopened_is true covers j k volume size disk pending down there behind =
-    let areas = there refl in
-    λ i. record { volume = volume i; size = size i; disk = disk i; older = areas.0 i; newer = areas.1 i; pending = pending i; spare = k.spare; down = down i }
-reopened_is false covers j k volume size disk pending down there behind =
-    let areas = behind refl in
-    λ i. record { volume = volume i; size = size i; disk = disk i; older = areas.0 i; newer = areas.1 i; pending = pending i; spare = k.spare; down = down i }
-
--- a history up to where it begins has no change
-cut_length : (n : ℕ) (h k : History) → k ≡ cut_to n h → n ≤ h.before → history_length k ≤ k.before
-cut_length n h k same le =
-    let cs : length k.changes ≡ length (take (n - h.before) h.changes) = ap (λ (x : History). length x.changes) same in
-    omega (arith, cs, length-take (n - h.before) h.changes)
-
--- The journal stood on a site, which has so many bytes, and on which no call of the disk had failed.
-pub disk_of : {S : Type 0} (g : Ghosts S) (old : WorldView) (s : S) (state : State) → Stands g old s state → (image : List ℕ) → g.image s ≡ Some image → g.bytes_of s ≡ state.kept.journal.disk
-disk_of g old s state stands image is =
-    let has = WhereTold-at (g.image s) (HasKept state.kept) image is stands.service.kept.has in
-    let long : length image ≡ g.bytes_of s = WhereTold-at (g.image s) (λ read. length read ≡ g.bytes_of s) image is (g.has_size s) in
-    sym long ∙ has.laid.size
-
--- What was found on a site is what is known, but for the memory that its journal has: it has the next epoch, the changes up to a number, and the
--- journal's areas, or the area at the disk's start where there are no changes.
-pub found_known : {S : Type 0} (g : Ghosts S) (old : WorldView) (s t : S) (state : State) (found : Found) (number : ℕ) → Stands g old s state → IsNew g old.settings.volume old.settings.journal_area state.told t found
-    → old.service.journal.down ≡ false → g.bytes_of s ≡ state.kept.journal.disk → g.bytes_of t ≡ g.bytes_of s → found.epoch ≡ state.epoch + 1 → found.history ≡ cut_to number state.kept.history
-    → (state.kept.history.before < number → (found.journal.older ≡ state.kept.journal.older) × (found.journal.newer ≡ state.kept.journal.newer))
-    → found ≡ with_spare found.journal.spare (found_to number state)
-found_known g old s t state found number stands new up disk bytes epoch history areas =
-    let j = state.kept.journal in
-    let k = found.journal in
-    let before = state.kept.history.before in
-    let opens = new.opens in
-    let down : old.service.journal.down ≡ j.down = ap (λ (x : JournalView). x.down) stands.service.journal in
-    let first : found.history.before ≡ before = ap (λ (x : History). x.before) history in
-    let behind : nat_lt before number ≡ false → (k.older ≡ None) × (k.newer ≡ Some (new_area 0 before)) =
-    λ isnt.
-    let begun = opens.begun (cut_length number state.kept.history found.history history (ltb-false before number isnt)) in
-    (begun.0, begun.1 ∙ ap (λ (b : ℕ). Some (new_area 0 b)) first) in
-    let journal : SameButSpare (cond (nat_lt before number) (unpended j) (begun_behind before j)) k =
-    reopened_is (nat_lt before number) before j k (new.journal ∙ stands.volume) (new.area ∙ stands.area) (sym opens.stands.size ∙ bytes ∙ disk) opens.pending (opens.up ∙ sym up ∙ down)
-    (λ is. areas (ltb-true before number is)) behind in
-    λ i. record { epoch = epoch i; history = history i; journal = journal i }
+-- What was found on a site is what is known, but for the memory that its journal has: it has the next epoch, the changes up to a number, and of
+-- the journal that was read what the opening leaves, which is what it would leave of the journal that is known.
+pub found_known : (volume size number : ℕ) (read : JournalView) (state : State) (found : Found) (image : List ℕ) (older newer : List (List ℕ)) → found.epoch ≡ state.epoch + 1
+    → found.history ≡ cut_to number state.kept.history → IsLeftOf volume size found image → read.volume ≡ volume → read.size ≡ size → IsJournal read → StandsFor read image older newer
+    → first_base read ≤ state.kept.history.before → found ≡ with_spare found.journal.spare (found_to number read state)
+found_known volume size number read state found image older newer epoch history is volume_is size_is journal stands low =
+    let covers : ℕ = state.kept.history.before in
+    let first : found.history.before ≡ covers = ap (λ (x : History). x.before) history in
+    let on : IsReadOn volume size covers image is.read = subst (λ (n : ℕ). IsReadOn volume size n image is.read) first is.is in
+    let left : SameButSpare (settled covers is.read) found.journal = subst (λ (n : ℕ). SameButSpare (settled n is.read) found.journal) first is.left in
+    let x : ℕ = found.journal.spare in
+    let same : SameButSpare (settled covers read) found.journal =
+    left ∙ ap (λ (v : JournalView). record v { spare = x }) (left_as_read volume size covers image read is.read older newer volume_is size_is journal stands low on) in
+    λ i. record { epoch = epoch i; history = history i; journal = same i }
 
 -- ---- a restart
-
-numbered_in-length : (o : Option OpenArea) (es : List (List ℕ)) → length (numbered_in o es) ≤ length es
-numbered_in-length None es = omega arith
-numbered_in-length (Some a) es = omega (arith, numbered-length a.base es)
-
--- where a change is above those that came before, the journal has an entry
-some_entry : (kept : Kept) (image : List ℕ) → kept.history.before < kept.mark → kept.mark ≤ history_length kept.history → (has : HasKept kept image) → 0 < length has.older + length has.newer
-some_entry kept image lt most has =
-    let b = kept.history.before in
-    let j = kept.journal in
-    let es : List (List ℕ) = entries_to kept.history kept.mark in
-    let list : entries j has.older (has.newer ++ []) ≡ numbered b (es ++ []) = has.numbers [] in
-    let both : length (entries j has.older (has.newer ++ [])) ≡ length (numbered_in j.older has.older) + length (numbered_in j.newer (has.newer ++ [])) = length-append (numbered_in j.older has.older) (numbered_in j.newer (has.newer ++ [])) in
-    let first : length (numbered_in j.older has.older) ≤ length has.older = numbered_in-length j.older has.older in
-    let second : length (numbered_in j.newer (has.newer ++ [])) ≤ length (has.newer ++ []) = numbered_in-length j.newer (has.newer ++ []) in
-    let none : length (has.newer ++ []) ≡ length has.newer = ap (λ (l : List (List ℕ)). length l) (append-nil has.newer) in
-    let long : length (numbered b (es ++ [])) ≡ length (es ++ []) = numbered-length b (es ++ []) in
-    let all : length (es ++ []) ≡ length es = ap (λ (l : List (List ℕ)). length l) (append-nil es) in
-    let count : length es ≡ length (take (kept.mark - b) kept.history.changes) = length-map (take (kept.mark - b) kept.history.changes) entry_bytes in
-    omega (arith, lt, most, ap (λ (l : List (ℕ × List ℕ)). length l) list, both, first, second, none, long, all, count, length-take (kept.mark - b) kept.history.changes)
 
 module _ {S : Type 0} (g : Ghosts S) (old : WorldView) (s t : S) (state : State) (stands : Stands g old s state) where
   -- the history that was found on a site that tells what it has
@@ -301,23 +240,6 @@ module _ {S : Type 0} (g : Ghosts S) (old : WorldView) (s t : S) (state : State)
       let beside = WhereTold-at (g.objects s) (IsBeside state) has.objects has.held stands.recoverable.cloud in
       begins.epoch ∙ beside.epoch
 
-  -- and the areas of the journal
-  restart_areas : (found : Found) → IsFoundOn g old.settings.volume old.settings.journal_area s found → Has g s → state.kept.history.before < state.kept.mark
-      → (found.journal.older ≡ state.kept.journal.older) × (found.journal.newer ≡ state.kept.journal.newer)
-  restart_areas found is has lt =
-      let kept = state.kept in
-      let on = stands.service.kept in
-      let here = WhereTold-at (g.image s) (HasKept kept) has.image has.is on.has in
-      let keeps = WhereTold-at (g.image s) (KeepsAreas old.settings.volume old.settings.journal_area found) has.image has.is is.areas in
-      let first : found.history.before ≡ kept.history.before = ap (λ (x : History). x.before) (restart_history found is has) in
-      let once = journal_once kept.journal keeps.read has.image here.older here.newer keeps.older keeps.newer (keeps.volume_is ∙ stands.volume) (keeps.size_is ∙ stands.area) on.is keeps.is here.laid keeps.stands
-      (some_entry kept has.image lt on.most here) in
-      let last : number_behind keeps.read.newer 0 ≡ kept.mark = ap (λ (o : Option OpenArea). number_behind o 0) once.1 ∙ on.stored in
-      let open_is : IfSome keeps.read.older (λ a. found.history.before < a.last) =
-      subst (λ (b : ℕ). IfSome keeps.read.older (λ a. b < a.last)) (sym first) (subst (λ (o : Option OpenArea). IfSome o (λ a. kept.history.before < a.last)) (sym once.0) stands.recoverable.uncovered) in
-      let same = keeps.same (omega (arith, lt, last, first)) open_is in
-      (same.0 ∙ once.0, same.1 ∙ once.1)
-
   -- the world over what was found again stands for what is known, where it is what is known
   pub stands_again : (known found : Found) → IsNew g old.settings.volume old.settings.journal_area state.told t found → found ≡ with_spare found.journal.spare known
       → Stands g (reopened_world old found) t (record (start state.told known) { moment = state.moment })
@@ -336,32 +258,50 @@ module _ {S : Type 0} (g : Ghosts S) (old : WorldView) (s t : S) (state : State)
 
   pub restarts_untold : (known found : Found) → state.told ≡ false → IsNew g old.settings.volume old.settings.journal_area state.told t found
       → Restarts state known (opening found ∷ []) (record (start state.told found) { moment = state.moment })
-  restarts_untold known found told new = untold found told new.legal (new.tree ∙ stands.volume) (new.journal ∙ stands.volume) (new.area ∙ stands.area) (refl, refl)
+  restarts_untold known found told new =
+      untold found told
+      (record {
+        legal = new.legal;
+        volume = new.tree ∙ stands.volume;
+        journal_volume = new.journal ∙ stands.volume;
+        journal_size = new.area ∙ stands.area;
+        pending = new.opens.pending;
+        up = new.opens.up;
+      }) (refl, refl)
+
+  -- what was found on a site that tells what it has is what is known
+  restart_known : (found : Found) → IsFoundOn g old.settings.volume old.settings.journal_area s found → Has g s → found ≡ with_spare found.journal.spare (kept_found state)
+  restart_known found is has =
+      let v = old.settings.volume in
+      let a = old.settings.journal_area in
+      let kept = state.kept in
+      let on = stands.service.kept in
+      let here = WhereTold-at (g.image s) (HasKept kept) has.image has.is on.has in
+      found_known v a kept.mark kept.journal state found has.image here.older here.newer (restart_epoch found is has) (restart_history found is has)
+      (WhereTold-at (g.image s) (IsLeftOf v a found) has.image has.is is.journal) (sym stands.volume) (sym stands.area) on.is here.laid (omega (arith, here.base))
 
   -- After a restart the proxy has found what is known, and the world stands for the state with that.
   pub restarted : (found : Found) → IsFoundOn g old.settings.volume old.settings.journal_area s found → IsOpenOn g t found → BothTold (λ old new. new ≡ claimed old) (g.objects s) (g.objects t)
-      → BothTold (λ old new. Unit {0}) (g.image s) (g.image t) → g.bytes_of t ≡ g.bytes_of s → old.service.journal.down ≡ false
-      → (next : State) × Restarts state (kept_found state) (opening found ∷ []) next × Stands g (reopened_world old found) t next
-  restarted found is opens claims images bytes up =
+      → BothTold (λ old new. Unit {0}) (g.image s) (g.image t) → (next : State) × Restarts state (kept_found state) (opening found ∷ []) next × Stands g (reopened_world old found) t next
+  restarted found is opens claims images =
       let new : IsNew g old.settings.volume old.settings.journal_area state.told t found = is_new g old.settings.volume old.settings.journal_area state.told s t found is opens claims images stands.recoverable.told in
       ⊎_elim
       (λ (told : state.told ≡ true).
-      let has = has_told g s (sym stands.recoverable.told ∙ told) in
-      let same : found ≡ with_spare found.journal.spare (kept_found state) =
-      found_known g old s t state found state.kept.mark stands new up (disk_of g old s state stands has.image has.is) bytes (restart_epoch found is has) (restart_history found is has) (restart_areas found is has) in
+      let same : found ≡ with_spare found.journal.spare (kept_found state) = restart_known found is (has_told g s (sym stands.recoverable.told ∙ told)) in
       (record (start state.told (kept_found state)) { moment = state.moment }, restarts_known (kept_found state) found told same, stands_again (kept_found state) found new same))
       (λ (told : state.told ≡ false). (record (start state.told found) { moment = state.moment }, restarts_untold (kept_found state) found told new, stands_again found found new refl)) (cases_Bool state.told)
 
   -- a crash at any moment of an opening leaves what the state before says
-  pub restart_leaves : LeavesFound g old.settings.volume old.settings.journal_area s t → LeavesFinding g s t state.kept.mark state.kept
+  pub restart_leaves : LeavesFound g old.settings.volume old.settings.journal_area s t → LeavesFinding g s t state.epoch state.kept.mark state.kept
   restart_leaves leaves =
-      both_told_from g s (λ image objects. LeavesOnly g s t (FindsPrefix state.kept.mark state.kept))
+      both_told_from g s (λ image objects. LeavesOnly g s t (FindsPrefix state.epoch state.kept.mark state.kept))
       (λ image objects is held.
       let kept = state.kept in
-      let found : FindsPrefix kept.mark kept image objects =
-      finds_at kept.mark kept image objects (holds_read g kept s stands.service.kept image is) stands.recoverable.legal (WhereTold-at (g.objects s) (Begins kept) objects held (stands_begins g old s state stands)) in
+      let epoch = state.epoch in
+      let found : FindsPrefix epoch kept.mark kept image objects =
+      finds_at epoch kept.mark kept image objects (holds_read g kept s stands.service.kept image is) stands.recoverable.legal (WhereTold-at (g.objects s) (Begins epoch kept) objects held (stands_begins g old s state stands)) in
       let there : LeavesFound g kept.journal.volume kept.journal.size s t =
       subst (λ (v : ℕ). LeavesFound g v kept.journal.size s t) stands.volume (subst (λ (z : ℕ). LeavesFound g old.settings.volume z s t) stands.area leaves) in
       let only : LeavesOnly g s t (FindsSame kept.journal.volume kept.journal.size image objects) =
       both_told_at g s (λ i o. IsSound kept.journal.volume kept.journal.size i o → LeavesOnly g s t (FindsSame kept.journal.volume kept.journal.size i o)) image objects is held there (stands_sound g old s state stands image objects is held) in
-      leaves_as g s t (FindsSame kept.journal.volume kept.journal.size image objects) (FindsPrefix kept.mark kept) (λ left now same. finds_same kept.mark kept image objects left now found same) only)
+      leaves_as g s t (FindsSame kept.journal.volume kept.journal.size image objects) (FindsPrefix epoch kept.mark kept) (λ left now same. finds_same epoch kept.mark kept image objects left now found same) only)

@@ -25,7 +25,7 @@ cut_none h = λ k. record h { changes = none k }
 -- what is known is found where the site tells what it has
 pub as_it_is : (old : State) (known : Found) (outs : List OutFrame) (new : State) → old.told ≡ true → Restarts old known outs new → Reopens old known outs new
 as_it_is old known outs new told (as_known is reopens) = reopens
-as_it_is old known outs new told (untold found silent legal volume same_volume same_size reopens) = absurd (true≢false (sym told ∙ silent))
+as_it_is old known outs new told (untold found silent may reopens) = absurd (true≢false (sym told ∙ silent))
 
 -- a restart shows how many changes it found, at least those up to the mark
 abbrev pub ShowsPrefix : State → List OutFrame → State → Type 0

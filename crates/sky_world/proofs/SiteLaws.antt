@@ -77,7 +77,7 @@ step_same mem s t frame.End outs plain p = absurd p
 
 restart_tells : (s : State) (known : Found) (outs : List OutFrame) (t : State) → Restarts s known outs t → t.told ≡ s.told
 restart_tells s known outs t (as_known told is) = ap (λ (x : State). x.told) is.1
-restart_tells s known outs t (untold found silent legal volume same_volume same_size is) = ap (λ (x : State). x.told) is.1
+restart_tells s known outs t (untold found silent may is) = ap (λ (x : State). x.told) is.1
 
 -- and each frame leaves whether the site tells what it has
 pub step_tells : (mem : Memory) (s t : State) (f : InFrame) (outs : List OutFrame) → Step mem s f outs t → t.told ≡ s.told

@@ -17,7 +17,7 @@ use Rattle.sky_outside.specs.Told.{BothTold, WhereTold}
 use Rattle.sky_outside.specs.declared.storage.Storage.{Ghosts}
 use Rattle.sky_outside.proofs.MomentLaws.{LeavesOnly-then}
 use Rattle.sky_outside.proofs.ToldLaws.{WhereTold-at, WhereTold-from}
-use Rattle.sky_recover.specs.Opening.{BeginsAt, Found, IsFoundOn, IsOpenOn, LeavesFound}
+use Rattle.sky_recover.specs.Opening.{BeginsAt, Found, IsFoundOn, IsLeftOf, IsOpenOn, LeavesFound}
 use Rattle.sky_sound.specs.Boot.{claimed}
 use Rattle.sky_sound.specs.Recovery.{FindsSame, IsSound, history_of}
 use Rattle.sky_sound.proofs.Texts.{ok_same}
@@ -27,7 +27,7 @@ use Rattle.sky_world.specs.Meaning.{Kept, State, Restarts, covered_found, cut_to
 use Rattle.sky_world.specs.Opening.{reopened_world}
 use Rattle.sky_world.specs.World.{IsBeside, Stands, WorldView, tells}
 use Rattle.sky_world.proofs.FindingLaws.{Begins, begins_at, both_told_at, both_told_from, finds_at, finds_same, history_at, leaves_as, leaves_finding, legal_cut, prefix_read, stands_begins, storable_take}
-use Rattle.sky_world.proofs.ReopenLaws.{IsNew, disk_of, found_known, has_told, is_new, restarts_known, restarts_untold, stands_again, told_on, with_spare}
+use Rattle.sky_world.proofs.ReopenLaws.{IsNew, found_known, has_told, is_new, restarts_known, restarts_untold, stands_again, told_on, with_spare}
 
 -- ---- what the older area has
 
@@ -109,7 +109,7 @@ LeavesWiped g j s m =
 abbrev pub HoldsNone : {S : Type 0} → Ghosts S → JournalView → S → S → Type 0
 HoldsNone g j s m = BothTold (λ old new. (older newer : List (List ℕ)) → StandsFor j old older newer → StandsFor (wiped j) new [] []) (g.image s) (g.image m)
 
-told_there : {A : Type 0} (R : A → A → Type 0) (a b : Option A) (x : A) → BothTold R a b → a ≡ Some x → (y : A) × (b ≡ Some y)
+pub told_there : {A : Type 0} (R : A → A → Type 0) (a b : Option A) (x : A) → BothTold R a b → a ≡ Some x → (y : A) × (b ≡ Some y)
 told_there R None None x both e = absurd cc
 told_there R None (Some y) x both e = absurd both
 told_there R (Some w) None x both e = absurd both
@@ -140,8 +140,8 @@ module _ {S : Type 0} (g : Ghosts S) (old : WorldView) (s m : S) (state : State)
       (λ left now p. (wiped_holds g kept s stands.service.kept image left has p.0, p.1)) only)
 
   -- a crash at any moment of it leaves a prefix of the history
-  pub wipe_leaves : LeavesWiped g old.service.journal s m → LeavesFinding g s m state.kept.history.before state.kept
-  wipe_leaves leaves = leaves_finding g s m state.kept.history.before state.kept stands.recoverable.legal (stands_begins g old s state stands) (wipe_prefix leaves)
+  pub wipe_leaves : LeavesWiped g old.service.journal s m → LeavesFinding g s m state.epoch state.kept.history.before state.kept
+  wipe_leaves leaves = leaves_finding g s m state.epoch state.kept.history.before state.kept stands.recoverable.legal (stands_begins g old s state stands) (wipe_prefix leaves)
 
   module _ (leaves : LeavesWiped g old.service.journal s m) (holds : HoldsNone g old.service.journal s m) (beside : SameCloud g s m) where
     wiped_at : WhereTold (g.image m) (λ image. StandsFor (wiped state.kept.journal) image [] [])
@@ -172,12 +172,12 @@ module _ {S : Type 0} (g : Ghosts S) (old : WorldView) (s m : S) (state : State)
     pub bare_beside : WhereTold (g.objects m) (IsBeside state)
     bare_beside = subst (λ (o : Option CloudMap). WhereTold o (IsBeside state)) (sym beside.objects) stands.recoverable.cloud
 
-    bare_begins : (objects : CloudMap) → g.objects m ≡ Some objects → Begins state.kept objects
+    bare_begins : (objects : CloudMap) → g.objects m ≡ Some objects → Begins state.epoch state.kept objects
     bare_begins objects held = begins_at state objects (WhereTold-at (g.objects m) (IsBeside state) objects held bare_beside)
 
     bare_history : (image : List ℕ) (objects : CloudMap) → g.image m ≡ Some image → g.objects m ≡ Some objects
         → history_of state.kept.journal.volume state.kept.journal.size image objects ≡ Ok (cut_to state.kept.history.before state.kept.history)
-    bare_history image objects is held = history_at state.kept state.kept.history.before image objects (bare_reads image is) bare_storable (bare_begins objects held)
+    bare_history image objects is held = history_at state.epoch state.kept state.kept.history.before image objects (bare_reads image is) bare_storable (bare_begins objects held)
 
     pub bare_sound : (image : List ℕ) (objects : CloudMap) → g.image m ≡ Some image → g.objects m ≡ Some objects → IsSound state.kept.journal.volume state.kept.journal.size image objects
     bare_sound image objects is held = record {
@@ -194,35 +194,31 @@ module _ {S : Type 0} (g : Ghosts S) (old : WorldView) (s m : S) (state : State)
 
     module _ (t : S) where
       -- a crash at any moment from s to t leaves a prefix of the history
-      pub bare_leaves : LeavesFound g old.settings.volume old.settings.journal_area m t → LeavesFinding g s t state.kept.history.before state.kept
+      pub bare_leaves : LeavesFound g old.settings.volume old.settings.journal_area m t → LeavesFinding g s t state.epoch state.kept.history.before state.kept
       bare_leaves found =
+          let epoch = state.epoch in
           let kept = state.kept in
           let j = kept.journal in
           let b = kept.history.before in
-          both_told_from g s (λ image objects. LeavesOnly g s t (FindsPrefix b kept))
+          both_told_from g s (λ image objects. LeavesOnly g s t (FindsPrefix epoch b kept))
           (λ image objects is held.
-          let first : LeavesOnly g s m (FindsPrefix b kept) = both_told_at g s (λ i o. LeavesOnly g s m (FindsPrefix b kept)) image objects is held (wipe_leaves leaves) in
+          let first : LeavesOnly g s m (FindsPrefix epoch b kept) = both_told_at g s (λ i o. LeavesOnly g s m (FindsPrefix epoch b kept)) image objects is held (wipe_leaves leaves) in
           let mid = told_there (λ read left. (older newer : List (List ℕ)) → StandsFor old.service.journal read older newer → StandsFor (wiped old.service.journal) left [] []) (g.image s) (g.image m) image holds is in
           let here : g.objects m ≡ Some objects = beside.objects ∙ held in
           let there : LeavesFound g j.volume j.size m t =
           subst (λ (v : ℕ). LeavesFound g v j.size m t) stands.volume (subst (λ (z : ℕ). LeavesFound g old.settings.volume z m t) stands.area found) in
           let second : LeavesOnly g m t (FindsSame j.volume j.size mid.0 objects) =
           both_told_at g m (λ i o. IsSound j.volume j.size i o → LeavesOnly g m t (FindsSame j.volume j.size i o)) mid.0 objects mid.1 here there (bare_sound mid.0 objects mid.1 here) in
-          let found_mid : FindsPrefix b kept mid.0 objects = finds_at b kept mid.0 objects (bare_prefix mid.0 mid.1) stands.recoverable.legal (bare_begins objects here) in
-          LeavesOnly-then g s m t (FindsPrefix b kept) (FindsSame j.volume j.size mid.0 objects) (FindsPrefix b kept) first second (λ left now p. p) (λ left now same. finds_same b kept mid.0 objects left now found_mid same))
+          let found_mid : FindsPrefix epoch b kept mid.0 objects = finds_at epoch b kept mid.0 objects (bare_prefix mid.0 mid.1) stands.recoverable.legal (bare_begins objects here) in
+          LeavesOnly-then g s m t (FindsPrefix epoch b kept) (FindsSame j.volume j.size mid.0 objects) (FindsPrefix epoch b kept) first second (λ left now p. p) (λ left now same. finds_same epoch b kept mid.0 objects left now found_mid same))
 
-      -- the proxy has found what the cloud covers, and the world stands for the state with that
-      pub restarted_bare : (found : Found) → IsFoundOn g old.settings.volume old.settings.journal_area m found → IsOpenOn g t found → BothTold (λ old new. new ≡ claimed old) (g.objects m) (g.objects t)
-          → BothTold (λ old new. Unit {0}) (g.image m) (g.image t) → g.bytes_of t ≡ g.bytes_of s → old.service.journal.down ≡ false
-          → (next : State) × Restarts state (covered_found state) (opening found ∷ []) next × Stands g (reopened_world old found) t next
-      restarted_bare found is opens claims images bytes up =
+      -- what was found on a site that tells what it has is what the cloud covers
+      bare_known : (found : Found) → IsFoundOn g old.settings.volume old.settings.journal_area m found → state.told ≡ true → found ≡ with_spare found.journal.spare (covered_found state)
+      bare_known found is told =
           let v = old.settings.volume in
           let a = old.settings.journal_area in
+          let j = state.kept.journal in
           let b = state.kept.history.before in
-          let new : IsNew g v a state.told t found = is_new g v a state.told m t found is opens claims images bare_tells in
-          ⊎_elim
-          (λ (told : state.told ≡ true).
-          let has = has_told g s (sym stands.recoverable.told ∙ told) in
           let mid = has_told g m (sym bare_tells ∙ told) in
           let begins = WhereTold-at (g.objects m) (BeginsAt v found) mid.objects mid.held is.cloud in
           let next_is = WhereTold-at (g.objects m) (IsBeside state) mid.objects mid.held bare_beside in
@@ -230,9 +226,20 @@ module _ {S : Type 0} (g : Ghosts S) (old : WorldView) (s m : S) (state : State)
           let known : history_of v a mid.image mid.objects ≡ Ok (cut_to b state.kept.history) =
           subst (λ (x : ℕ). history_of x a mid.image mid.objects ≡ Ok (cut_to b state.kept.history)) (sym stands.volume)
           (subst (λ (z : ℕ). history_of state.kept.journal.volume z mid.image mid.objects ≡ Ok (cut_to b state.kept.history)) (sym stands.area) (bare_history mid.image mid.objects mid.is mid.held)) in
-          let same : found ≡ with_spare found.journal.spare (covered_found state) =
-          found_known g old s t state found b stands new up (disk_of g old s state stands has.image has.is) bytes (begins.epoch ∙ next_is.epoch)
-          (ok_same found.history (cut_to b state.kept.history) (history_of v a mid.image mid.objects) found_is known) (λ lt. absurd (omega (arith, lt))) in
+          found_known v a b (wiped j) state found mid.image [] [] (begins.epoch ∙ next_is.epoch) (ok_same found.history (cut_to b state.kept.history) (history_of v a mid.image mid.objects) found_is known)
+          (WhereTold-at (g.image m) (IsLeftOf v a found) mid.image mid.is is.journal) (sym stands.volume) (sym stands.area) (IsJournal-wiped j stands.service.kept.is)
+          (WhereTold-at (g.image m) (λ image. StandsFor (wiped j) image [] []) mid.image mid.is wiped_at) (omega arith)
+
+      -- the proxy has found what the cloud covers, and the world stands for the state with that
+      pub restarted_bare : (found : Found) → IsFoundOn g old.settings.volume old.settings.journal_area m found → IsOpenOn g t found → BothTold (λ old new. new ≡ claimed old) (g.objects m) (g.objects t)
+          → BothTold (λ old new. Unit {0}) (g.image m) (g.image t) → (next : State) × Restarts state (covered_found state) (opening found ∷ []) next × Stands g (reopened_world old found) t next
+      restarted_bare found is opens claims images =
+          let v = old.settings.volume in
+          let a = old.settings.journal_area in
+          let new : IsNew g v a state.told t found = is_new g v a state.told m t found is opens claims images bare_tells in
+          ⊎_elim
+          (λ (told : state.told ≡ true).
+          let same : found ≡ with_spare found.journal.spare (covered_found state) = bare_known found is told in
           (record (start state.told (covered_found state)) { moment = state.moment }, restarts_known g old s t state stands (covered_found state) found told same, stands_again g old s t state stands (covered_found state) found new same))
           (λ (told : state.told ≡ false).
           (record (start state.told found) { moment = state.moment }, restarts_untold g old s t state stands (covered_found state) found told new, stands_again g old s t state stands found found new refl)) (cases_Bool state.told)

@@ -8,19 +8,22 @@ use Rattle.sky_mount.specs.Values.{call_of}
 use Rattle.sky_nfs.specs.History.{last_tree}
 use Rattle.sky_nfs.specs.declared.call.Call.{Call}
 use Rattle.sky_nfs.specs.declared.status.NfsStatus.TheVariants.{Jukebox}
-use Rattle.sky_outside.specs.Told.{Given, GivenPart}
+use Rattle.sky_outside.specs.CloudMap.{CloudMap}
+use Rattle.sky_outside.specs.Moments.{BesideObjects, LeavesOnly, MayLeaveNow, SameCloud}
+use Rattle.sky_outside.specs.Told.{BothTold, Given, WhereTold}
 use Rattle.sky_outside.specs.declared.storage.Storage.{Ghosts}
 use Rattle.sky_record.specs.Stream.{Received, TooLong, nothing, IsOpen, Reads}
 use Rattle.sky_results.specs.Answers.{answer_bytes}
 use Rattle.sky_rpc.specs.Reply.{Success, reply_record}
 use Rattle.sky_rpc.specs.Values.{reply_of, results_count}
-use Rattle.sky_script.specs.Frame.{OutFrame, Closed, out_frames}
+use Rattle.sky_script.specs.Frame.{InFrame, Bytes, OutFrame, Closed, out_frames}
 use Rattle.sky_world.specs.declared.message.Message as declared
 use Rattle.sky_world.specs.declared.message.Message.TheVariants as message
 use Rattle.sky_world.specs.declared.sessions.Session.{Session}
-use Rattle.sky_world.specs.Disk.{LeavesPrefix, WentOn}
+use Rattle.sky_world.specs.Disk.{HoldsPrefix, LeavesPrefix, WentOn}
+use Rattle.sky_world.specs.Finding.{RecordUnderWay}
 use Rattle.sky_world.specs.Meaning as meaning
-use Rattle.sky_world.specs.Meaning.{State, Kept, Scarce, Answered, called_by, kept_after, lacks_room, service_of, with_kept, with_session, frame_for, StepRecords, StepBytes}
+use Rattle.sky_world.specs.Meaning.{State, Kept, Scarce, Answered, called_by, kept_after, lacks_room, service_of, session_at, with_kept, with_session, frame_for, Step, StepRecords}
 use Rattle.sky_world.specs.Message.{procedure_count}
 use Rattle.sky_world.specs.Service.{answer_to, bare_answer, reply_without_memory, takes_some}
 use Rattle.sky_world.specs.World.{ServiceView, SinkGot, ServesFor, StandsAt, StandsFor}
@@ -30,6 +33,15 @@ use Rattle.sky_world.specs.World.{ServiceView, SinkGot, ServesFor, StandsAt, Sta
 pub record Answers {S : Type 0} (g : Ghosts S) (old : ServiceView) (s : S) (bytes : List ℕ) (reply : Option (List ℕ)) (new : ServiceView) (t : S) : Type 0 where
   pub each : (state : State) → ServesFor g old s state
       → (after : Kept) × Answered Scarce state bytes reply after × ServesFor g new t (with_kept state after) × WentOn g s t state.kept.mark after
+
+-- the image that a crash now leaves on the disk holds all changes up to the mark
+abbrev pub IsStable : {S : Type 0} → Ghosts S → S → Kept → Type 0
+IsStable g s kept = WhereTold (g.image s) (λ read. (image : List ℕ) → g.may_leave s image → HoldsPrefix kept.mark kept image)
+
+-- What the answer to a record acknowledges is stable by t: in each state for which the service stood at s, the record is answered so, and a crash
+-- leaves all changes up to the mark that there is then.
+pub record Acknowledges {S : Type 0} (g : Ghosts S) (old : ServiceView) (s : S) (bytes : List ℕ) (reply : Option (List ℕ)) (t : S) : Type 0 where
+  pub each : (state : State) → ServesFor g old s state → (after : Kept) × Answered Scarce state bytes reply after × IsStable g t after
 
 -- From s to t a call of the disk failed for a record: in each state for which the service stands it would be answered by some reply.
 pub record Fails {S : Type 0} (g : Ghosts S) (old : ServiceView) (s : S) (bytes : List ℕ) (t : S) : Type 0 where
@@ -110,36 +122,77 @@ pub record FeedFails {S : Type 0} (g : Ghosts S) (before : ServiceView) (s : S) 
   pub goes_on : GoesOn old bytes (text ∷ []) nothing
   pub fails : Fails g before s text t
 
--- Of a payload on an open session this much was handled, and answered by these frames; the session is open still. This
--- is kept now, and `received` is what was received of the record under way.
-pub record UnderWay (old : State) (number : ℕ) (stream payload done : List ℕ) (outs : List OutFrame) (kept : Kept) (received : Received) : Type 0 where
+-- The payload of an open session was handled so far, and answered by these frames; the session is open still. This is kept now, and
+-- `received` is what was received of the record under way. Which stream the session has does not matter.
+pub record UnderWay (old : State) (number : ℕ) (stream done : List ℕ) (outs : List OutFrame) (kept : Kept) (received : Received) : Type 0 where
   pub before : List (List ℕ)
   pub part : Received
   pub records : List (List ℕ)
   pub read : Reads stream before part
   pub goes_on : Reads (stream ++ done) (before ++ records) received
-  pub handled : StepRecords Scarce number records (with_session old number (meaning.Open (stream ++ payload))) outs
-      (with_kept (with_session old number (meaning.Open (stream ++ payload))) kept)
+  pub handled : (all : List ℕ) → StepRecords Scarce number records (with_session old number (meaning.Open all)) outs (with_kept (with_session old number (meaning.Open all)) kept)
 
--- From s to t a payload was handled on an open session, which had received `received` and is `next` now, and the answers were given:
--- in each state for which the service stands, and for each stream. The service after it stands for the state that it leads to.
+-- ---- what a crash leaves on the disk, record by record
+
+-- A crash within a frame that is handled from old, with these answers, left an image that holds the changes that were stable before the record
+-- under way.
+pub record HoldsWithin (old : State) (f : InFrame) (outs : List OutFrame) (image : List ℕ) : Type 0 where
+  pub under : RecordUnderWay old f
+  pub rest : List OutFrame
+  pub answers : (under.said ++ under.own) ++ rest ≡ outs
+  pub holds : HoldsPrefix under.mid.kept.mark under.next.kept image
+
+-- a crash at any moment from s to t leaves that
+abbrev pub LeavesHolding : {S : Type 0} → Ghosts S → S → S → State → InFrame → List OutFrame → Type 0
+LeavesHolding g s t old f outs = WhereTold (g.image s) (λ read. LeavesOnly g s t (BesideObjects g s (HoldsWithin old f outs)))
+
+-- from s to t the frame was handled with these answers, and the disk was not blamed: it tells as before, and the cloud beside it stays
+pub record WentWithin {S : Type 0} (g : Ghosts S) (s t : S) (old : State) (f : InFrame) (outs : List OutFrame) : Type 0 where
+  pub leaves : LeavesHolding g s t old f outs
+  pub tells : BothTold (λ before after. Unit {0}) (g.image s) (g.image t)
+  pub beside : SameCloud g s t
+
+-- From s to t a write failed within a payload, for the record under way: the sink was given the answers before it, and less than all of its own one.
+-- What that acknowledges is stable, and the whole payload has a step whose answers begin so.
+pub record PartGiven {S : Type 0} (g : Ghosts S) (s t : S) (old : State) (f : InFrame) (sink : SinkGot) : Type 0 where
+  pub under : RecordUnderWay old f
+  pub kept : ℕ
+  pub less : kept < length (out_frames under.own)
+  pub given : Given sink.before sink.after (out_frames under.said ++ take kept (out_frames under.own))
+  pub went : WentWithin g s t old f (under.said ++ under.own)
+  pub stable : IsStable g t under.next.kept
+  pub rest : List OutFrame
+  pub last : State
+  pub goes_on : Step Scarce old f ((under.said ++ under.own) ++ rest) last
+
+-- From s to t a call of the disk failed within a payload, for the record under way: the sink was given the answers before it. What they
+-- acknowledged is stable.
+pub record LastUnsaid {S : Type 0} (g : Ghosts S) (s t : S) (old : State) (f : InFrame) (sink : SinkGot) : Type 0 where
+  pub under : RecordUnderWay old f
+  pub unsaid : OutFrame
+  pub own_is : under.own ≡ unsaid ∷ []
+  pub given : Given sink.before sink.after (out_frames under.said)
+  pub leaves : LeavesHolding g s t old f (under.said ++ under.own)
+  pub behind : WhereTold (g.image s) (λ read. (image : List ℕ) (objects : CloudMap) → MayLeaveNow g t image objects → BesideObjects g s (HoldsPrefix under.mid.kept.mark under.next.kept) image objects)
+
+-- ---- a payload, from s to t, on an open session that had received `received`: in each state for which the service stands, and for each stream
+
+-- It was handled, and the answers were given; the session is `next` now, and the service stands for the state that it leads to.
 abbrev pub Handled : {S : Type 0} → Ghosts S → ℕ → ServiceView → S → Received → List ℕ → ServiceView → S → Session → SinkGot → Type 0
 Handled g number service s received payload later t next sink =
-    (old : State) (stream : List ℕ) → number < length old.sessions → ServesFor g service s old → StandsAt received stream
+    (old : State) (stream : List ℕ) → number < length old.sessions → session_at old number ≡ meaning.Open stream → ServesFor g service s old → StandsAt received stream
     → (session : meaning.Session) × (kept : Kept) × (outs : List OutFrame) × StandsFor next session × ServesFor g later t (with_kept old kept)
-    × StepBytes Scarce (meaning.Open stream) number payload old outs (with_session (with_kept old kept) number session)
-    × Given sink.before sink.after (out_frames outs) × WentOn g s t old.kept.mark kept
+    × Step Scarce old (Bytes number payload) outs (with_session (with_kept old kept) number session)
+    × Given sink.before sink.after (out_frames outs) × WentWithin g s t old (Bytes number payload) outs
 
--- a write failed: a prefix of the answers was given, and not all of them
+-- a write failed
 abbrev pub HandledPart : {S : Type 0} → Ghosts S → ℕ → ServiceView → S → Received → List ℕ → S → SinkGot → Type 0
 HandledPart g number service s received payload t sink =
-    (old : State) (stream : List ℕ) → number < length old.sessions → ServesFor g service s old → StandsAt received stream
-    → (outs : List OutFrame) × (new : State) × StepBytes Scarce (meaning.Open stream) number payload old outs new
-    × GivenPart sink.before sink.after (out_frames outs) × LeavesPrefix g s t old.kept.mark new.kept
+    (old : State) (stream : List ℕ) → number < length old.sessions → session_at old number ≡ meaning.Open stream → ServesFor g service s old → StandsAt received stream
+    → PartGiven g s t old (Bytes number payload) sink
 
--- a call of the disk failed for a record: the payload, cut behind it, has a step, and all answers but the last were given
+-- a call of the disk failed for a record
 abbrev pub HandledDown : {S : Type 0} → Ghosts S → ℕ → ServiceView → S → Received → List ℕ → S → SinkGot → Type 0
 HandledDown g number service s received payload t sink =
-    (old : State) (stream : List ℕ) → number < length old.sessions → ServesFor g service s old → StandsAt received stream
-    → (cut : ℕ) × (outs : List OutFrame) × (last : OutFrame) × (new : State) × StepBytes Scarce (meaning.Open stream) number (take cut payload) old (outs ++ last ∷ []) new
-    × Given sink.before sink.after (out_frames outs) × LeavesPrefix g s t old.kept.mark new.kept
+    (old : State) (stream : List ℕ) → number < length old.sessions → session_at old number ≡ meaning.Open stream → ServesFor g service s old → StandsAt received stream
+    → LastUnsaid g s t old (Bytes number payload) sink

@@ -5,7 +5,7 @@ use Rattle.sky_base.specs.declared.moment.Moment.{Moment}
 use Rattle.sky_calls.specs.Durable.{journal_after}
 use Rattle.sky_calls.specs.Stable.{is_stable_call}
 use Rattle.sky_entry.specs.Entry.{entry_bytes}
-use Rattle.sky_journal.specs.Journal.{JournalView, new_area, room_of, wanted_of, after_commit}
+use Rattle.sky_journal.specs.Journal.{JournalView, room_of, wanted_of, after_commit, wiped}
 use Rattle.sky_nfs.specs.Procedure.{refusal_of}
 use Rattle.sky_nfs.specs.declared.call.Call.{Call}
 use Rattle.sky_nfs.specs.declared.call.Call.TheVariants.{Commit}
@@ -17,6 +17,7 @@ use Rattle.sky_record.specs.Stream.{Progress, TooLong, Received, Completes}
 use Rattle.sky_script.specs.Frame as frame
 use Rattle.sky_script.specs.Frame.{InFrame, OutFrame, Reply, Opened, Counted, session_count}
 use Rattle.sky_script.specs.declared.frame.Stats.{Stats}
+use Rattle.sky_sound.specs.Settled.{settled}
 use Rattle.sky_world.specs.Message as message
 use Rattle.sky_world.specs.Message.{Message, meaning_of}
 use Rattle.sky_world.specs.Service.{Service, reply_to, reply_put_off, RunsOut}
@@ -238,42 +239,40 @@ StepBytes memory Closed number payload old outs new = Passes old outs new
 abbrev pub cut_to : ℕ → History → History
 cut_to n history = record history { changes = take (n - history.before) history.changes }
 
--- the journal as it is read again from its disk, where changes behind these ones are on it: nothing is pending
-abbrev pub unpended : JournalView → JournalView
-unpended journal = record journal { pending = [] }
-
--- the journal where there are none: it is begun behind this many changes, in the area at the disk's start
-abbrev pub begun_behind : ℕ → JournalView → JournalView
-begun_behind covers journal = record journal { older = None; newer = Some (new_area 0 covers); pending = [] }
-
--- a journal that has the changes up to a number, as it is opened again
-abbrev pub reopened : ℕ → ℕ → JournalView → JournalView
-reopened covers number journal = cond (nat_lt covers number) (unpended journal) (begun_behind covers journal)
-
--- what an opening finds, where the changes up to a number are on the disk: they are the history, in the next epoch
-abbrev pub found_to : ℕ → State → Found
-found_to number old = record {
+-- what an opening finds where the changes up to a number are on the disk, and this journal is read from it: they are the history, in the next
+-- epoch, and the journal is as an opening leaves it, where the changes before the history are in the cloud
+abbrev pub found_to : ℕ → JournalView → State → Found
+found_to number read old = record {
   epoch = old.epoch + 1;
   history = cut_to number old.kept.history;
-  journal = reopened old.kept.history.before number old.kept.journal;
+  journal = settled old.kept.history.before read;
 }
 
 -- it finds the changes up to the mark, and, without the journal, those that the cloud covers
 abbrev pub kept_found : State → Found
-kept_found old = found_to old.kept.mark old
+kept_found old = found_to old.kept.mark old.kept.journal old
 
 abbrev pub covered_found : State → Found
-covered_found old = found_to old.kept.history.before old
+covered_found old = found_to old.kept.history.before (wiped old.kept.journal) old
 
 -- From old, the proxy was opened again, and found this: it says so, and no session has begun. The moment stays.
 abbrev pub Reopens : State → Found → List OutFrame → State → Type 0
 Reopens old found outs new = (outs ≡ opening found ∷ []) × (new ≡ record (start old.told found) { moment = old.moment })
 
--- What a restart finds: what is known to be there; and on a site that does not tell what it has, some legal history of the volume.
+-- what a restart may find of what is kept, on a site that does not tell what it has: some legal history of the volume, and a journal of it, as
+-- large as before, in which no change waits, and for which no call of the disk failed
+pub record MayBeFound (kept : Kept) (found : Found) : Type 0 where
+  pub legal : IsLegalHistory found.history
+  pub volume : found.history.tree.volume ≡ kept.journal.volume
+  pub journal_volume : found.journal.volume ≡ kept.journal.volume
+  pub journal_size : found.journal.size ≡ kept.journal.size
+  pub pending : found.journal.pending ≡ []
+  pub up : found.journal.down ≡ false
+
+-- What a restart finds: what is known to be there, where the site tells what it has.
 pub data Restarts (old : State) (known : Found) (outs : List OutFrame) (new : State) : Type 0 where
   as_known : old.told ≡ true → Reopens old known outs new → Restarts old known outs new
-  untold : (found : Found) → old.told ≡ false → IsLegalHistory found.history → found.history.tree.volume ≡ old.kept.journal.volume
-      → found.journal.volume ≡ old.kept.journal.volume → found.journal.size ≡ old.kept.journal.size → Reopens old found outs new → Restarts old known outs new
+  untold : (found : Found) → old.told ≡ false → MayBeFound old.kept found → Reopens old found outs new → Restarts old known outs new
 
 -- one frame: from old, it is answered by these frames, and leads to new
 abbrev pub Step : Memory → State → InFrame → List OutFrame → State → Type 0

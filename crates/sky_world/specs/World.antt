@@ -1,28 +1,28 @@
 -- What contracts see of the world, and which state it stands for.
-use Rattle.std.specs.Prelude.{◌≡◌, ◌⊎◌, ℕ, ◌+◌, ◌<◌, ◌≤◌, Bool, false, ◌&&◌, List, [], ◌∷◌, ◌++◌, length, slice_index_or, take, Option, Some, None, IfSome, IsSome, is_some}
+use Rattle.std.specs.Prelude.{◌≡◌, ◌⊎◌, ℕ, ◌+◌, ◌<◌, Bool, false, ◌&&◌, List, [], ◌∷◌, ◌++◌, length, slice_index_or, take, Option, IsSome, is_some}
 use Rattle.sky_base.specs.declared.moment.Moment.{Moment}
 use Rattle.sky_base.specs.declared.status.Status.{Status}
 use Rattle.sky_base.specs.declared.status.Status.TheVariants.{SinkFault, JournalFault, Memory, CloudFault, Foreign, Missing, Damaged, Worn}
-use Rattle.sky_journal.specs.Journal.{JournalView, SameButSpare, last_of, new_area, number_behind}
+use Rattle.sky_journal.specs.Journal.{JournalView, SameButSpare, last_of, number_behind}
 use Rattle.sky_nfs.specs.History.{IsLegalHistory, last_tree}
 use Rattle.sky_nfs.specs.Tree.{Tree}
 use Rattle.sky_outside.specs.CloudMap.{CloudMap}
 use Rattle.sky_outside.specs.declared.storage.Storage.{Ghosts}
 use Rattle.sky_record.specs.Stream.{Received, IsOpen, Reads}
-use Rattle.sky_outside.specs.Told.{WhereTold, Given, GivenPart}
+use Rattle.sky_outside.specs.Told.{WhereTold, Given}
 use Rattle.sky_script.specs.Frame as frame
 use Rattle.sky_script.specs.Frame.{InFrame, Begin, Bytes, OutFrame, out_frames, session_count}
 use Rattle.sky_script.specs.declared.frame.Stats.{Stats}
 use Rattle.sky_settings.specs.declared.settings.Fields.{Fields}
 use Rattle.sky_sound.specs.Boot.{Claims, MayClaim}
-use Rattle.sky_sound.specs.Cloud.{checkpoint_in, cloud_tree, covers_of, epoch_after}
+use Rattle.sky_sound.specs.Cloud.{HasNoCheckpoint, cloud_tree, covers_of, epoch_after}
 use Rattle.sky_world.specs.declared.sessions.Session.{Session}
 use Rattle.sky_world.specs.declared.sessions.Session.TheVariants.{Absent, Open, Closed}
 use Rattle.sky_world.specs.Bytes.{AreBytes}
 use Rattle.sky_world.specs.Meaning as meaning
 use Rattle.sky_world.specs.Meaning.{State, session_at, Scarce, Step}
 use Rattle.sky_world.specs.Disk.{IsKeptOn}
-use Rattle.sky_world.specs.Finding.{FindsNow, LeavesFinding, floor_of, reached}
+use Rattle.sky_world.specs.Finding.{FindsBehind, FindsNow, LeavesFinding, LeavesWithin, RecordUnderWay, floor_of}
 
 -- what answers the calls, in the program: the number of this opening, the tree, the journal, and the moment
 pub record ServiceView : Type 0 where
@@ -89,7 +89,7 @@ tells g s = is_some (g.image s) && is_some (g.objects s)
 -- The cloud beside the journal of a state: it has no checkpoint of the proxy, it covers what came before the history, and the next epoch is
 -- the one behind that of the state.
 pub record IsBeside (state : State) (objects : CloudMap) : Type 0 where
-  pub no_checkpoint : checkpoint_in objects ≡ None
+  pub no_checkpoint : HasNoCheckpoint objects
   pub covers : state.kept.history.before ≡ covers_of objects
   pub tree : state.kept.history.tree ≡ cloud_tree state.kept.journal.volume objects
   pub epoch : epoch_after objects ≡ state.epoch + 1
@@ -100,11 +100,6 @@ pub record IsRecoverable {S : Type 0} (g : Ghosts S) (state : State) (s : S) : T
   pub legal : IsLegalHistory state.kept.history
   pub volume : state.kept.history.tree.volume ≡ state.kept.journal.volume
   pub cloud : WhereTold (g.objects s) (IsBeside state)
-  -- of two open areas the older has a change that the cloud does not cover
-  pub uncovered : IfSome state.kept.journal.older (λ a. state.kept.history.before < a.last)
-  -- where all changes on the disk are covered, only the area at the disk's start is open, and it has no entries
-  pub begun : state.kept.mark ≤ state.kept.history.before
-      → (state.kept.journal.older ≡ None) × (state.kept.journal.newer ≡ Some (new_area 0 state.kept.history.before))
 
 -- On a site the world stands for the state.
 pub record Stands {S : Type 0} (g : Ghosts S) (world : WorldView) (s : S) (state : State) : Type 0 where
@@ -122,30 +117,47 @@ pub record SinkGot : Type 0 where
   pub after : Option (List ℕ)
 
 -- In each state that the world stands for the frame has a step; the sink was given the frames that answer it, and the
--- world then stands for the state that it leads to. After a crash at any moment of it recovery finds a prefix of the history that holds
--- the mark from before (where the journal is given up: what the cloud covers), and from its end on one that holds the mark from after.
+-- world then stands for the state that it leads to. After a crash at any moment of it recovery finds a prefix of the history that holds what was
+-- stable before the record under way (where the journal is given up: what the cloud covers), and from its end on one that holds the mark from after.
 abbrev pub Stepped : {S : Type 0} → Ghosts S → WorldView → S → InFrame → WorldView → S → SinkGot → Type 0
 Stepped g old s f new t sink =
     (state : State) → Stands g old s state
     → (outs : List OutFrame) × (next : State) × Step Scarce state f outs next × Stands g new t next × Given sink.before sink.after (out_frames outs)
-    × LeavesFinding g s t (floor_of f state) (reached f state next) × FindsNow g t next.kept
+    × LeavesWithin g s t state f outs × FindsNow g t next.epoch next.kept
 
--- In each state that the world stands for the frame has a step; the sink was given a prefix of the frames that answer it,
--- and not all of them. What a crash leaves is as above.
+-- A write failed in a frame that was handled from this state. The sink was given the answers before the record under way, and of its own one a
+-- prefix that is not all of it.
+pub record WriteFailed {S : Type 0} (g : Ghosts S) (state : State) (s : S) (f : InFrame) (t : S) (sink : SinkGot) : Type 0 where
+  pub under : RecordUnderWay state f
+  pub kept : ℕ
+  pub less : kept < length (out_frames under.own)
+  pub given : Given sink.before sink.after (out_frames under.said ++ take kept (out_frames under.own))
+  pub leaves : LeavesWithin g s t state f (under.said ++ under.own)
+  -- what the answer acknowledges is stable before a byte of it is written
+  pub behind : FindsBehind g s t under.next.epoch under.next.kept.mark under.next.kept
+  -- the whole frame has a step, whose answers begin so
+  pub rest : List OutFrame
+  pub last : State
+  pub goes_on : Step Scarce state f ((under.said ++ under.own) ++ rest) last
+
+-- A call of the disk failed in a frame that was handled from this state, for the record under way. The sink was given all answers before it, and no
+-- byte of its own one.
+pub record DiskFailed {S : Type 0} (g : Ghosts S) (state : State) (s : S) (f : InFrame) (t : S) (sink : SinkGot) : Type 0 where
+  pub under : RecordUnderWay state f
+  pub unsaid : OutFrame
+  pub own_is : under.own ≡ unsaid ∷ []
+  pub given : Given sink.before sink.after (out_frames under.said)
+  pub leaves : LeavesWithin g s t state f (under.said ++ under.own)
+  -- what the answers before it acknowledged is stable
+  pub behind : FindsBehind g s t state.epoch under.mid.kept.mark under.next.kept
+
+-- in each state that the world stands for a write failed
 abbrev pub SteppedPart : {S : Type 0} → Ghosts S → WorldView → S → InFrame → S → SinkGot → Type 0
-SteppedPart g old s f t sink =
-    (state : State) → Stands g old s state
-    → (outs : List OutFrame) × (next : State) × Step Scarce state f outs next × GivenPart sink.before sink.after (out_frames outs)
-    × LeavesFinding g s t (floor_of f state) (reached f state next)
+SteppedPart g old s f t sink = (state : State) → Stands g old s state → WriteFailed g state s f t sink
 
--- A call of the disk failed in a record of a session. In each state that the world stands for the frame, cut behind this record, has
--- a step; the sink was given all of the answers but the one to this record. After a crash at any moment recovery finds a prefix of the
--- history that holds the mark from before.
+-- a call of the disk failed in a record of a session
 abbrev pub SteppedDown : {S : Type 0} → Ghosts S → WorldView → S → InFrame → S → SinkGot → Type 0
-SteppedDown g old s (Bytes number payload) t sink =
-    (state : State) → Stands g old s state
-    → (cut : ℕ) × (outs : List OutFrame) × (last : OutFrame) × (next : State) × Step Scarce state (Bytes number (take cut payload)) (outs ++ last ∷ []) next
-    × Given sink.before sink.after (out_frames outs) × LeavesFinding g s t state.kept.mark next.kept
+SteppedDown g old s (Bytes number payload) t sink = (state : State) → Stands g old s state → DiskFailed g state s (Bytes number payload) t sink
 SteppedDown g old s _ t sink = ⊥
 
 -- a restart
@@ -170,7 +182,7 @@ ClaimsFailed _ n old new = MayClaim n old new
 pub record RestartFailed {S : Type 0} (g : Ghosts S) (old : WorldView) (s : S) (f : InFrame) (t : S) (sink : SinkGot) : Type 0 where
   pub restart : IsRestart f
   pub unwritten : sink.after ≡ sink.before
-  pub leaves : (state : State) → Stands g old s state → LeavesFinding g s t (floor_of f state) state.kept
+  pub leaves : (state : State) → Stands g old s state → LeavesFinding g s t state.epoch (floor_of f state) state.kept
 
 -- the frame begins a session that has not begun before
 abbrev pub BeginsFirst : WorldView → InFrame → Type 0

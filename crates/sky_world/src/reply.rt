@@ -13,7 +13,7 @@ ghost use Rattle.sky_rpc.specs.Reply.{Success, reply_record};
 ghost use Rattle.sky_rpc.specs.Values.{reply_of, results_count};
 ghost use Rattle.sky_script.specs.Frame.{Reply, out_frame};
 ghost use Rattle.sky_world.specs.Carried.{IsServing};
-ghost use Rattle.sky_world.specs.Feeding.{Answers, AnswersCall, AnswersMessage, Fails, FailsCall, FailsMessage, IsFormed, IsSmall};
+ghost use Rattle.sky_world.specs.Feeding.{Acknowledges, Answers, AnswersCall, AnswersMessage, Fails, FailsCall, FailsMessage, IsFormed, IsSmall};
 ghost use Rattle.sky_world.specs.Message.{procedure_count};
 ghost use Rattle.sky_world.specs.Service.{bare_answer, reply_without_memory};
 
@@ -217,6 +217,7 @@ fn write_reply_behind<D: Disk>(
     requires serving { IsServing D.Storage service.old disk.old }
     ensures within { IfOk result (λ wrote. IfSome wrote (λ n. n ≤ 131072)) }
     ensures answered { IfOk result (λ wrote. Answers D.Storage service.old disk.old text.now (option_map (λ n. take n (drop 9 buf.new)) wrote) service.new disk.new) }
+    ensures stable_before_reply { IfOk result (λ wrote. Acknowledges D.Storage service.old disk.old text.now (option_map (λ n. take n (drop 9 buf.new)) wrote) disk.new) }
     ensures serving { OnOk result (IsServing D.Storage service.new disk.new) }
     ensures fails { OnErr result (Fails D.Storage service.old disk.old text.now disk.new) }
     ensures size { D.bytes_of disk.new ≡ D.bytes_of disk.old }
@@ -274,6 +275,8 @@ impl ReplyBuf {
         requires serving { IsServing D.Storage service.old disk.old }
         ensures within { IfOk result (λ wrote. IfSome wrote (λ n. n ≤ 131072)) }
         ensures answered { IfOk result (λ wrote. Answers D.Storage service.old disk.old text.now (option_map (λ n. take n (drop 9 self.new.bytes.items)) wrote) service.new disk.new) }
+        // Before a byte of the reply is given away, a crash leaves what it acknowledges.
+        ensures stable_before_reply { IfOk result (λ wrote. Acknowledges D.Storage service.old disk.old text.now (option_map (λ n. take n (drop 9 self.new.bytes.items)) wrote) disk.new) }
         ensures serving { OnOk result (IsServing D.Storage service.new disk.new) }
         ensures fails { OnErr result (Fails D.Storage service.old disk.old text.now disk.new) }
         ensures size { D.bytes_of disk.new ≡ D.bytes_of disk.old }

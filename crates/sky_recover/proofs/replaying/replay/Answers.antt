@@ -4,7 +4,7 @@ use Rattle.sky_recover.proofs.Replays.{fails_there, one_further, replayed, under
 use Rattle.sky_recover.proofs.replaying.replay.Goals as goal
 
 pub entries-init : goal.entries-init
-entries-init g c = under_way g.D.Storage c.args.journal.now c.args.disk.now c.args.tree.now c.first-place.result c.requires.read c.first-place.ensures
+entries-init g c = under_way g.D.Storage c.args.journal.now c.args.disk.now c.args.tree.now c.first-place.result c.requires.read c.first-place.ensures.left
 
 pub returns-in_err-replay_next-clause-foreign : goal.returns-in_err-replay_next-clause-foreign
 returns-in_err-replay_next-clause-foreign g c = λ at is.

@@ -1,4 +1,4 @@
-use Rattle.sky_recover.proofs.Settled.{wipe_leaves, read_then, stays_anew, anew_leaves}
+use Rattle.sky_recover.proofs.Settled.{wipe_leaves, read_then, settled_anew, stays_anew, anew_leaves}
 use Rattle.sky_recover.proofs.settling.begin_anew.Goals as goal
 
 pub returns-in_err-wipe-clause-any_moment : goal.returns-in_err-wipe-clause-any_moment
@@ -24,3 +24,7 @@ pub returns-clause-above : goal.returns-clause-above
 returns-clause-above g c =
     stays_anew g.D.Storage c.args.journal.now c.args.covers c.facts.ensures c.requires.covered c.wipe.new.self c.rotate.new.self c.in_ok-wipe.ensures.ok c.in_ok-rotate.ensures.ok c.requires.number
     c.args.disk.now c.wipe.new.disk c.rotate.new.disk c.requires.read c.in_ok-wipe.ensures.holds c.in_ok-rotate.ensures.holds
+
+pub returns-clause-settled : goal.returns-clause-settled
+returns-clause-settled g c =
+    settled_anew g.D.Storage c.args.journal.now c.args.covers c.facts.ensures c.requires.covered c.wipe.new.self c.rotate.new.self c.in_ok-wipe.ensures.ok c.in_ok-rotate.ensures.ok c.requires.number c.requires.up

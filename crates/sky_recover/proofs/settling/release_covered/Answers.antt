@@ -1,4 +1,4 @@
-use Rattle.sky_recover.proofs.Settled.{low_from, released_leaves, released_then, still_leaves, stays_released}
+use Rattle.sky_recover.proofs.Settled.{low_from, released_leaves, released_then, settled_released, settled_still, still_leaves, stays_released}
 use Rattle.sky_recover.proofs.settling.release_covered.Goals as goal
 
 pub returns-in_err-release-clause-any_moment : goal.returns-in_err-release-clause-any_moment
@@ -23,3 +23,12 @@ returns-in_ok-release-clause-any_moment g c =
 
 pub returns-else-older_is_covered-clause-any_moment : goal.returns-else-older_is_covered-clause-any_moment
 returns-else-older_is_covered-clause-any_moment g c = still_leaves g.D.Storage c.args.journal.now c.args.covers c.args.disk.now c.requires.stands.durable
+
+pub returns-in_ok-release-clause-settled : goal.returns-in_ok-release-clause-settled
+returns-in_ok-release-clause-settled g c =
+    settled_released c.args.journal.now c.args.covers c.facts.ensures (low_from c.args.journal.now.older c.args.covers (c.older_is_covered.ensures.covered c.if-older_is_covered.true))
+    c.release.new.self c.in_ok-release.ensures.ok c.requires.above c.requires.pending c.requires.up
+
+pub returns-else-older_is_covered-clause-settled : goal.returns-else-older_is_covered-clause-settled
+returns-else-older_is_covered-clause-settled g c =
+    settled_still c.args.journal.now c.args.covers c.requires.above c.requires.pending c.requires.up (c.older_is_covered.ensures.uncovered c.if-older_is_covered.false)

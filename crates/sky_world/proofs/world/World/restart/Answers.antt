@@ -45,7 +45,7 @@ returns-clause-ok g c =
     let e = c.in_ok-opened.ensures in
     let told = got (g.K.Sink.written c.args.sink.now) (g.K.Sink.written c.tell_opened.new.sink) in
     ok_then c.tell_opened.result
-    (λ given. restart_ok g.S.Storage c.args.self.now c.reopen.new.self c.args.site.now c.reopen.new.site (Opened o.epoch o.k o.journal) c.reopen.ensures.size c.requires.serving.up.up told
+    (λ given. restart_ok g.S.Storage c.args.self.now c.reopen.new.self c.args.site.now c.reopen.new.site (Opened o.epoch o.k o.journal) told
     e.found e.claims e.tells c.reopen.ensures.any_moment given) c.tell_opened.ensures.ok
 
 pub returns-clause-serving : goal.returns-clause-serving
@@ -59,7 +59,7 @@ returns-clause-failed g c =
     let e = c.in_ok-opened.ensures in
     let told = got (g.K.Sink.written c.args.sink.now) (g.K.Sink.written c.tell_opened.new.sink) in
     tell_fails c.tell_opened.result c.tell_opened.ensures.statuses g.S.Storage c.args.self.now c.args.site.now c.reopen.new.site told Restart
-    (λ is. restart_part g.S.Storage c.args.self.now c.reopen.new.self c.args.site.now c.reopen.new.site (Opened o.epoch o.k o.journal) c.reopen.ensures.size c.requires.serving.up.up told
+    (λ is. restart_part g.S.Storage c.args.self.now c.reopen.new.self c.args.site.now c.reopen.new.site (Opened o.epoch o.k o.journal) told
     e.found e.claims e.tells c.reopen.ensures.any_moment (c.tell_opened.ensures.partly is))
 
 pub returns-clause-refused : goal.returns-clause-refused

@@ -1,4 +1,4 @@
-use Rattle.std.proofs.Common.{◌∙◌, inl, inr, refl, sym}
+use Rattle.std.proofs.Common.{inl, inr, refl, sym}
 use Rattle.std.proofs.lemmas.Result.{err_from_is_err_and}
 use Rattle.sky_base.specs.declared.status.Status.TheVariants.{CloudFault, JournalFault}
 use Rattle.sky_calls.proofs.Carried.{ok_at}
@@ -101,7 +101,7 @@ returns-clause-ok g c =
     let again = again_from g.S.Storage old mid c.reopen.new.self m t (Opened o.epoch o.k o.journal) refl refl c.wipe.ensures.rest.2 e.found in
     rw (← c.self.view_is)
     (ok_then c.tell_opened.result
-    (λ given. bare_ok g.S.Storage old c.reopen.new.self c.args.site.now t (Opened o.epoch o.k o.journal) (c.reopen.ensures.size ∙ c.wipe.ensures.size) (rw (← c.self.view_is) at c.requires.serving.up.up) told
+    (λ given. bare_ok g.S.Storage old c.reopen.new.self c.args.site.now t (Opened o.epoch o.k o.journal) told
     m c.wipe.ensures.leaves holds c.wipe.ensures.beside again e.claims e.tells c.reopen.ensures.any_moment given) c.tell_opened.ensures.ok)
 
 pub returns-clause-serving : goal.returns-clause-serving
@@ -126,7 +126,7 @@ returns-clause-failed g c =
     let again = again_from g.S.Storage old mid c.reopen.new.self m t (Opened o.epoch o.k o.journal) refl refl c.wipe.ensures.rest.2 e.found in
     rw (← c.self.view_is)
     (tell_fails c.tell_opened.result c.tell_opened.ensures.statuses g.S.Storage old c.args.site.now t told RestartWithoutJournal
-    (λ is. bare_part g.S.Storage old c.reopen.new.self c.args.site.now t (Opened o.epoch o.k o.journal) (c.reopen.ensures.size ∙ c.wipe.ensures.size) (rw (← c.self.view_is) at c.requires.serving.up.up) told
+    (λ is. bare_part g.S.Storage old c.reopen.new.self c.args.site.now t (Opened o.epoch o.k o.journal) told
     m c.wipe.ensures.leaves holds c.wipe.ensures.beside again e.claims e.tells c.reopen.ensures.any_moment (c.tell_opened.ensures.partly is)))
 
 pub returns-clause-refused : goal.returns-clause-refused
