@@ -1,5 +1,7 @@
 pub mod Boot
 pub mod Cloud
 pub mod Entries
+pub mod Invariant
+pub mod Kept
 pub mod Recovery
 pub mod Settled
