@@ -19,7 +19,7 @@ use Rattle.sky_script.specs.Frame.{InFrame, OutFrame, IsInFrame, in_frame, in_fr
 use Rattle.sky_script.proofs.FrameLaws.{frame_same}
 use Rattle.sky_settings.specs.declared.settings.Fields.{Fields}
 use Rattle.sky_sound.specs.Cloud.{epoch_after}
-use Rattle.sky_world.specs.Meaning.{State, Memory as Supply, Scarce, Restarts, as_known, untold, covered_found, kept_found, start, Step, Steps, IsStep}
+use Rattle.sky_world.specs.Meaning.{State, Supply, Scarce, Restarts, as_known, untold, covered_found, kept_found, start, Step, Steps, IsStep}
 use Rattle.sky_world.specs.Opening.{IsRefusedAs}
 use Rattle.sky_world.specs.World.{IsRestart, restarts_by, tells}
 use Rattle.sky_world.proofs.FindingLaws.{both_told_at}

@@ -7,7 +7,8 @@ use Rattle.sky_record.proofs.Reading.{one_reading, closed_reads_on}
 use Rattle.sky_script.specs.Frame as frame
 use Rattle.sky_script.specs.Frame.{OutFrame}
 use Rattle.sky_world.specs.Bytes.{AreBytes, HasBytes, HasByteStreams}
-use Rattle.sky_world.specs.Meaning.{State, Kept, Session, Absent, Open, Closed, Memory, Answered, by_meaning, put_off, out_of_memory, session_at, with_kept, with_session, is_open, frame_for, after_reply, Passes, Then, Closes, StepRecord, StepRecords, StepProgress, StepBytes, Step}
+use Rattle.sky_world.specs.Meaning.{State, Session, Absent, Open, Closed, Supply, Answered, by_meaning, put_off, out_of_memory, session_at, with_kept, with_session, is_open, frame_for, after_reply, Passes, Then, Closes, StepRecord, StepRecords, StepProgress, StepBytes, Step}
+use Rattle.sky_sound.specs.Kept.{Kept}
 use Rattle.sky_world.proofs.SessionLaws.{all-at}
 use Rattle.sky_world.proofs.FrameLaws.{bytes-append}
 use Rattle.sky_world.proofs.FeedLaws.{completed, progress_passed}
@@ -20,7 +21,7 @@ progress_passes n (InFragment last due) s outs t e p = p
 progress_passes n Whole s outs t e p = p
 progress_passes n TooLong s outs t e p = of_closed (Closes n) n s outs t e p
 
-module _ (mem : Memory) (s : State) (n : ℕ) (lt : n < length s.sessions) where
+module _ (mem : Supply) (s : State) (n : ℕ) (lt : n < length s.sessions) where
   -- the session is open with this stream, and this is the history
   abbrev at : Kept → List ℕ → State
   at h stream = with_session (with_kept s h) n (Open stream)
@@ -208,17 +209,17 @@ open_within s n stream e =
     ⊎_elim (λ lt. lt) (λ le. let none : Absent ≡ Open stream = sym (get_or_past s.sessions n Absent le) ∙ e in absurd cc) (cases_lt n (length s.sessions))
 
 -- a session that is not open is passed over
-passes_of : (mem : Memory) (x : Session) (n : ℕ) (payload : List ℕ) (s : State) (outs : List OutFrame) (t : State) → is_open x ≡ false → StepBytes mem x n payload s outs t → Passes s outs t
+passes_of : (mem : Supply) (x : Session) (n : ℕ) (payload : List ℕ) (s : State) (outs : List OutFrame) (t : State) → is_open x ≡ false → StepBytes mem x n payload s outs t → Passes s outs t
 passes_of mem Absent n payload s outs t e p = p
 passes_of mem (Open stream) n payload s outs t e p = absurd cc
 passes_of mem Closed n payload s outs t e p = p
 
-of_passes : (mem : Memory) (x : Session) (n : ℕ) (payload : List ℕ) (s : State) (outs : List OutFrame) (t : State) → is_open x ≡ false → Passes s outs t → StepBytes mem x n payload s outs t
+of_passes : (mem : Supply) (x : Session) (n : ℕ) (payload : List ℕ) (s : State) (outs : List OutFrame) (t : State) → is_open x ≡ false → Passes s outs t → StepBytes mem x n payload s outs t
 of_passes mem Absent n payload s outs t e p = p
 of_passes mem (Open stream) n payload s outs t e p = absurd cc
 of_passes mem Closed n payload s outs t e p = p
 
-pass_both : (mem : Memory) (s : State) (n : ℕ) (p q : List ℕ) (outs further : List OutFrame) (mid new : State) → is_open (session_at s n) ≡ false → StepBytes mem (session_at s n) n p s outs mid
+pass_both : (mem : Supply) (s : State) (n : ℕ) (p q : List ℕ) (outs further : List OutFrame) (mid new : State) → is_open (session_at s n) ≡ false → StepBytes mem (session_at s n) n p s outs mid
     → StepBytes mem (session_at mid n) n q mid further new → StepBytes mem (session_at s n) n (p ++ q) s (outs ++ further) new
 pass_both mem s n p q outs further mid new e first second =
     let f = passes_of mem (session_at s n) n p s outs mid e first in
@@ -228,7 +229,7 @@ pass_both mem s n p q outs further mid new e first second =
 
 -- ---- the two frames
 
-pub cut_step : (mem : Memory) (s : State) (n : ℕ) (p q : List ℕ) (outs further : List OutFrame) (mid new : State) → HasByteStreams s → AreBytes p → AreBytes q
+pub cut_step : (mem : Supply) (s : State) (n : ℕ) (p q : List ℕ) (outs further : List OutFrame) (mid new : State) → HasByteStreams s → AreBytes p → AreBytes q
     → Step mem s (frame.Bytes n p) outs mid → Step mem mid (frame.Bytes n q) further new → Step mem s (frame.Bytes n (p ++ q)) (outs ++ further) new
 cut_step mem s n p q outs further mid new has p_fits q_fits first second = go (session_at s n) refl
   where

@@ -15,7 +15,8 @@ use Rattle.sky_script.specs.Frame as frame
 use Rattle.sky_script.specs.Frame.{OutFrame, Reply, out_frame, out_frames}
 use Rattle.sky_world.specs.Bytes.{AreBytes}
 use Rattle.sky_world.specs.Disk.{LeavesPrefix, WentOn}
-use Rattle.sky_world.specs.Meaning.{State, Kept, Open, Closed, Scarce, Answered, by_meaning, put_off, out_of_memory, session_at, with_kept, with_session, frame_for, is_open, Then, Closes, StepRecord, StepRecords, StepProgress, StepBytes}
+use Rattle.sky_world.specs.Meaning.{State, Open, Closed, Scarce, Answered, by_meaning, put_off, out_of_memory, session_at, with_kept, with_session, frame_for, is_open, Then, Closes, StepRecord, StepRecords, StepProgress, StepBytes}
+use Rattle.sky_sound.specs.Kept.{Kept}
 use Rattle.sky_world.specs.World.{ServiceView, ServesFor}
 use Rattle.sky_world.specs.Feeding.{Answers, Fails, FeedFails, GoesOn, Feeds, more, answered, too_long, Rests, UnderWay}
 use Rattle.sky_world.proofs.DiskLaws.{went_nowhere}

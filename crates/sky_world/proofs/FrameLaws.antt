@@ -9,7 +9,7 @@ use Rattle.sky_script.specs.Frame.{InFrame, OutFrame, Counted, session_count}
 use Rattle.sky_world.specs.Bytes.{AreBytes, HasBytes, HasByteStreams, CarriesBytes}
 use Rattle.sky_recover.specs.Opening.{Found}
 use Rattle.sky_world.specs.Laws.{IsForeseen}
-use Rattle.sky_world.specs.Meaning.{State, Session, Absent, Open, Closed, Memory, Ample, start, stats_of, opening, Restarts, as_known, untold, covered_found, kept_found, after_reply, session_at, with_kept, with_session, ended, Then, Closes, StepRecord, StepRecords, StepProgress, StepBytes, Step, Steps, IsStep}
+use Rattle.sky_world.specs.Meaning.{State, Session, Absent, Open, Closed, Supply, Ample, start, stats_of, opening, Restarts, as_known, untold, covered_found, kept_found, after_reply, session_at, with_kept, with_session, ended, Then, Closes, StepRecord, StepRecords, StepProgress, StepBytes, Step, Steps, IsStep}
 use Rattle.sky_world.proofs.SiteLaws.{step_tells}
 use Rattle.sky_world.proofs.SessionLaws.{all-replicate, all-set, all-at}
 use Rattle.sky_world.proofs.StepLaws.{open_or_not, of_open, of_closed, records_some, progress_some, IsOne, both, passes_one, then_one, records_one, progress_one}
@@ -29,11 +29,11 @@ reply_keeps : (n : ℕ) (reply : Option (List ℕ)) (s : State) → HasByteStrea
 reply_keeps n None s h = all-set HasBytes s.sessions n Closed h tt
 reply_keeps n (Some bytes) s h = h
 
-record_keeps : (mem : Memory) (n : ℕ) (bytes : List ℕ) → Keeps (StepRecord mem n bytes)
+record_keeps : (mem : Supply) (n : ℕ) (bytes : List ℕ) → Keeps (StepRecord mem n bytes)
 unfolding Keeps
 record_keeps mem n bytes s outs new does h = stays (after_reply n does.reply (with_kept s does.after)) new does.leads (reply_keeps n does.reply (with_kept s does.after) h)
 
-records_keep : (mem : Memory) (n : ℕ) (records : List (List ℕ)) → Keeps (StepRecords mem n records)
+records_keep : (mem : Supply) (n : ℕ) (records : List (List ℕ)) → Keeps (StepRecords mem n records)
 unfolding Keeps
 records_keep mem n [] s outs new does h = stays s new does.1 h
 records_keep mem n (bytes ∷ records) s outs new does h =
@@ -63,7 +63,7 @@ bytes-append (x ∷ xs) ys p q = (p.0, bytes-append xs ys p.1 q)
 abbrev HasStep : (State → List OutFrame → State → Type 0) → State → Type 0
 HasStep Does s = (outs : List OutFrame) × (new : State) × HasByteStreams new × Does s outs new
 
-bytes_some : (mem : Memory) (x : Session) (n : ℕ) (payload : List ℕ) (s : State) → HasBytes x → AreBytes payload → HasByteStreams s → HasStep (StepBytes mem x n payload) s
+bytes_some : (mem : Supply) (x : Session) (n : ℕ) (payload : List ℕ) (s : State) → HasBytes x → AreBytes payload → HasByteStreams s → HasStep (StepBytes mem x n payload) s
 unfolding Keeps
 bytes_some mem (Open stream) n payload s has more h =
     let c = completes_some stream payload has more in
@@ -86,7 +86,7 @@ reopens_some : (known : Found) (s : State) → s.told ≡ true → HasStep (λ (
 reopens_some known s told =
     (opening known ∷ [], record (start s.told known) { moment = s.moment }, all-replicate HasBytes session_count Absent tt, as_known told (refl, refl))
 
-pub step_some : (mem : Memory) (old : State) (f : InFrame) → HasByteStreams old → CarriesBytes f → IsForeseen old.told f → IsStep f → (outs : List OutFrame) × (new : State) × HasByteStreams new × Step mem old f outs new
+pub step_some : (mem : Supply) (old : State) (f : InFrame) → HasByteStreams old → CarriesBytes f → IsForeseen old.told f → IsStep f → (outs : List OutFrame) × (new : State) × HasByteStreams new × Step mem old f outs new
 step_some mem old (frame.Begin n) h carries seen is = ([], with_session old n (Open []), all-set HasBytes old.sessions n (Open []) h tt, (refl, refl))
 step_some mem old (frame.Bytes n payload) h carries seen is = bytes_some mem (session_at old n) n payload old (all-at HasBytes old.sessions n Absent h tt) carries h
 step_some mem old (frame.Close n) h carries seen is =
@@ -133,7 +133,7 @@ step_one old frame.End a b t u seen p q = absurd p
 seen_at : (told now : Bool) (f : InFrame) → now ≡ told → IsForeseen told f → IsForeseen now f
 seen_at told now f e seen = subst (λ (b : Bool). IsForeseen b f) (sym e) seen
 
-steps_some : (told : Bool) (mem : Memory) (s : State) (frames : List InFrame) → s.told ≡ told → HasByteStreams s → AllByRecursion (λ f. IsStep f × CarriesBytes f × IsForeseen told f) frames
+steps_some : (told : Bool) (mem : Supply) (s : State) (frames : List InFrame) → s.told ≡ told → HasByteStreams s → AllByRecursion (λ f. IsStep f × CarriesBytes f × IsForeseen told f) frames
     → (outs : List OutFrame) × (last : State) × Steps mem s frames outs last
 steps_some told mem s [] same h all = ([], s, (refl, refl))
 steps_some told mem s (f ∷ frames) same h all =
@@ -141,7 +141,7 @@ steps_some told mem s (f ∷ frames) same h all =
     let rest = steps_some told mem first.1 frames (step_tells mem s first.1 f first.0 first.3 ∙ same) first.2 all.1 in
     (first.0 ++ rest.0, rest.1, (first.1, first.0, rest.0, first.3, rest.2, refl))
 
-pub frames_some : (told : Bool) (found : Found) (mem : Memory) (frames : List InFrame) → AllByRecursion (λ f. IsStep f × CarriesBytes f × IsForeseen told f) frames
+pub frames_some : (told : Bool) (found : Found) (mem : Supply) (frames : List InFrame) → AllByRecursion (λ f. IsStep f × CarriesBytes f × IsForeseen told f) frames
     → (outs : List OutFrame) × (last : State) × Steps mem (start told found) frames outs last
 frames_some told found mem frames all = steps_some told mem (start told found) frames refl (all-replicate HasBytes session_count Absent tt) all
 

@@ -7,7 +7,8 @@ use Rattle.sky_record.specs.Stream.{Progress}
 use Rattle.sky_recover.specs.Opening.{Found}
 use Rattle.sky_script.specs.Frame as frame
 use Rattle.sky_script.specs.Frame.{InFrame, OutFrame}
-use Rattle.sky_world.specs.Meaning.{State, Kept, Scarce, Memory, Answered, by_meaning, put_off, out_of_memory, after_message, called_by, kept_after, leaves_stable, Restarts, as_known, untold, covered_found, kept_found, kept_of, Step, StepProgress, StepRecords}
+use Rattle.sky_world.specs.Meaning.{State, Scarce, Supply, Answered, by_meaning, put_off, out_of_memory, after_message, called_by, kept_after, leaves_stable, Restarts, as_known, untold, covered_found, kept_found, kept_of, Step, StepProgress, StepRecords}
+use Rattle.sky_sound.specs.Kept.{Kept}
 use Rattle.sky_world.specs.Laws.{IsMarked}
 use Rattle.sky_world.specs.World.{IsRestart}
 use Rattle.sky_world.specs.Message as message
@@ -25,13 +26,13 @@ extends_of k l p = record {
   size = p.2;
 }
 
-pub step_extends : (mem : Memory) (old new : State) (f : InFrame) (outs : List OutFrame) → (IsRestart f → ⊥) → Step mem old f outs new → Extends old.kept new.kept
+pub step_extends : (mem : Supply) (old new : State) (f : InFrame) (outs : List OutFrame) → (IsRestart f → ⊥) → Step mem old f outs new → Extends old.kept new.kept
 step_extends mem old new f outs plain step = extends_of old.kept new.kept (step_goes_on_in mem old new f outs plain step)
 
-pub records_extend : (mem : Memory) (n : ℕ) (records : List (List ℕ)) (old : State) (outs : List OutFrame) (new : State) → StepRecords mem n records old outs new → Extends old.kept new.kept
+pub records_extend : (mem : Supply) (n : ℕ) (records : List (List ℕ)) (old : State) (outs : List OutFrame) (new : State) → StepRecords mem n records old outs new → Extends old.kept new.kept
 records_extend mem n records old outs new steps = extends_of old.kept new.kept (records_go_on_in mem n records old outs new steps)
 
-pub progress_extends : (mem : Memory) (n : ℕ) (progress : Progress) (old : State) (outs : List OutFrame) (new : State) → StepProgress n progress old outs new → Extends old.kept new.kept
+pub progress_extends : (mem : Supply) (n : ℕ) (progress : Progress) (old : State) (outs : List OutFrame) (new : State) → StepProgress n progress old outs new → Extends old.kept new.kept
 progress_extends mem n progress old outs new step = extends_of old.kept new.kept (progress_goes_on_in mem n progress old outs new step)
 
 -- it extends, and the mark does not fall
@@ -97,7 +98,7 @@ message_marked s (message.Mount xid call) = marked_same s.kept s.kept refl
 message_marked s (message.Nfs xid cred call) = call_marked s.kept (called_by cred call s.moment)
 
 -- a frame that is no restart leaves the mark within the history, and does not let it fall
-pub step_stays_marked : (mem : Memory) (old new : State) (f : InFrame) (outs : List OutFrame) → (IsRestart f → ⊥) → Step mem old f outs new → IsMarked old.kept → (old.kept.mark ≤ new.kept.mark) × IsMarked new.kept
+pub step_stays_marked : (mem : Supply) (old new : State) (f : InFrame) (outs : List OutFrame) → (IsRestart f → ⊥) → Step mem old f outs new → IsMarked old.kept → (old.kept.mark ≤ new.kept.mark) × IsMarked new.kept
 step_stays_marked mem old new f outs plain step = step_leads StaysMarked marked_same marked_then message_marked mem old f outs new plain step
 
 -- what was found is marked
@@ -108,7 +109,7 @@ restart_marked : (old : State) (known : Found) (outs : List OutFrame) (new : Sta
 restart_marked old known outs new (as_known told is) = subst (λ (s : State). IsMarked s.kept) (sym is.1) (found_marked known)
 restart_marked old known outs new (untold found not_told may is) = subst (λ (s : State). IsMarked s.kept) (sym is.1) (found_marked found)
 
-pub step_marked : (mem : Memory) (old new : State) (f : InFrame) (outs : List OutFrame) → Step mem old f outs new → IsMarked old.kept → IsMarked new.kept
+pub step_marked : (mem : Supply) (old new : State) (f : InFrame) (outs : List OutFrame) → Step mem old f outs new → IsMarked old.kept → IsMarked new.kept
 step_marked mem old new (frame.Begin n) outs step marked = (step_stays_marked mem old new (frame.Begin n) outs (λ r. r) step marked).1
 step_marked mem old new (frame.Bytes n payload) outs step marked = (step_stays_marked mem old new (frame.Bytes n payload) outs (λ r. r) step marked).1
 step_marked mem old new (frame.Close n) outs step marked = (step_stays_marked mem old new (frame.Close n) outs (λ r. r) step marked).1

@@ -10,7 +10,8 @@ use Rattle.sky_script.specs.Frame.{Bytes, OutFrame, out_frames}
 use Rattle.sky_world.specs.declared.sessions.Session.TheVariants as slot
 use Rattle.sky_world.specs.Bytes.{AreBytes}
 use Rattle.sky_world.specs.Finding.{RecordUnderWay}
-use Rattle.sky_world.specs.Meaning.{State, Kept, Open, Closed, Scarce, Step, StepBytes, session_at, with_kept}
+use Rattle.sky_world.specs.Meaning.{State, Open, Closed, Scarce, Step, StepBytes, session_at, with_kept}
+use Rattle.sky_sound.specs.Kept.{Kept}
 use Rattle.sky_world.specs.Feeding.{Feeds, FeedFails, UnderWay, WentWithin, Handled, HandledPart, HandledDown}
 use Rattle.sky_world.specs.World.{ServiceView, ServesFor, SinkGot, StandsAt}
 use Rattle.sky_world.proofs.FrameLaws.{bytes-append}

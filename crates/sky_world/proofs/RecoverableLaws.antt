@@ -11,7 +11,8 @@ use Rattle.sky_outside.specs.declared.storage.Storage.{Ghosts}
 use Rattle.sky_outside.proofs.ToldLaws.{WhereTold-at, WhereTold-from}
 use Rattle.sky_script.specs.Frame.{InFrame, OutFrame}
 use Rattle.sky_sound.specs.Cloud.{cloud_tree}
-use Rattle.sky_world.specs.Meaning.{State, Kept, Memory, Scarce, Step}
+use Rattle.sky_world.specs.Meaning.{State, Supply, Scarce, Step}
+use Rattle.sky_sound.specs.Kept.{Kept}
 use Rattle.sky_world.specs.World.{IsBeside, IsRecoverable, IsRestart, tells}
 use Rattle.sky_world.proofs.HistoryLaws.{step_goes_on_in, step_legal}
 use Rattle.sky_world.proofs.SiteLaws.{step_same}
@@ -28,7 +29,7 @@ pub record SameBeginning (kept later : Kept) : Type 0 where
   pub size : later.journal.size ≡ kept.journal.size
 
 -- what a frame leaves that is no restart, also one that is cut behind a record for which a call of the disk failed
-pub step_begins_same : (mem : Memory) (old new : State) (f : InFrame) (outs : List OutFrame) → (IsRestart f → ⊥) → Step mem old f outs new → SameBeginning old.kept new.kept
+pub step_begins_same : (mem : Supply) (old new : State) (f : InFrame) (outs : List OutFrame) → (IsRestart f → ⊥) → Step mem old f outs new → SameBeginning old.kept new.kept
 step_begins_same mem old new f outs plain step =
     let p = step_goes_on_in mem old new f outs plain step in
     record {

@@ -26,10 +26,11 @@ use Rattle.sky_sound.proofs.Claims.{checkpoint_in-claimed, epoch_after-claimed}
 use Rattle.sky_sound.specs.Settled.{settled}
 use Rattle.sky_sound.proofs.Texts.{ok_same}
 use Rattle.sky_world.specs.declared.sessions.Session.TheVariants.{Absent}
-use Rattle.sky_world.specs.Disk.{AreStorable, HasKept, IsKeptOn}
+use Rattle.sky_sound.specs.Invariant.{AreStorable, DiskHas, Invariant}
 use Rattle.sky_world.specs.Finding.{FindsPrefix, LeavesFinding}
 use Rattle.sky_world.specs.Meaning as meaning
-use Rattle.sky_world.specs.Meaning.{Kept, State, Restarts, as_known, untold, cut_to, found_to, kept_found, kept_of, opening, start}
+use Rattle.sky_world.specs.Meaning.{State, Restarts, as_known, untold, cut_to, found_to, kept_found, kept_of, opening, start}
+use Rattle.sky_sound.specs.Kept.{Kept}
 use Rattle.sky_world.specs.Opening.{opened_world, reopened_world}
 use Rattle.sky_world.specs.World.{IsBeside, IsRecoverable, Stands, WorldView, tells}
 use Rattle.sky_world.proofs.FindingLaws.{Begins, both_told_at, both_told_from, finds_at, finds_same, holds_read, leaves_as, stands_begins, stands_history, stands_sound}

@@ -5,7 +5,7 @@ use Rattle.std.proofs.lemmas.Bool.{cases_eq}
 use Rattle.std.proofs.lemmas.List.{append-nil, length-set, set-get_or, get_or-set_same, get_or-set_other}
 use Rattle.sky_base.specs.declared.moment.Moment.{Moment}
 use Rattle.sky_journal.specs.Journal.{JournalView, last_of, number_behind, wiped}
-use Rattle.sky_journal.specs.Journal.{StandsFor as journal_stands}
+use Rattle.sky_journal.specs.Journal.{StandsFor}
 use Rattle.sky_nfs.specs.History.{IsLegalHistory, history_length}
 use Rattle.sky_outside.specs.CloudMap.{CloudMap}
 use Rattle.sky_outside.specs.Moments.{BesideObjects, LeavesOnly, MayLeaveNow, OfPair, SameCloud}
@@ -20,15 +20,17 @@ use Rattle.sky_script.specs.Frame.{InFrame, Begin, Bytes, Close, SetMoment, Stat
 use Rattle.sky_script.specs.declared.frame.Stats.{Stats}
 use Rattle.sky_sound.specs.Boot.{claimed}
 use Rattle.sky_sound.specs.Cloud.{cloud_tree}
-use Rattle.sky_world.specs.Disk.{HoldsPrefix, IsKeptOn}
+use Rattle.sky_world.specs.Disk.{HoldsPrefix}
+use Rattle.sky_sound.specs.Invariant.{Invariant}
 use Rattle.sky_world.specs.Finding.{FindsBehind, FindsNow, FindsPrefix, HandlesOne, LeavesFinding, LeavesWithin, LeftWithin, RecordUnderWay, floor_of, reached}
 use Rattle.sky_world.specs.Sessions.{closed}
 use Rattle.sky_world.specs.declared.sessions.Session.{Session}
 use Rattle.sky_world.specs.declared.sessions.Session.TheVariants.{Absent, Open, Closed}
 use Rattle.sky_world.specs.Meaning as meaning
-use Rattle.sky_world.specs.Meaning.{State, Kept, Scarce, Step, opening, stats_of, session_at, with_kept, with_session, StepBytes}
+use Rattle.sky_world.specs.Meaning.{State, Scarce, Step, opening, stats_of, session_at, with_kept, with_session, StepBytes}
+use Rattle.sky_sound.specs.Kept.{Kept}
 use Rattle.sky_world.specs.Opening.{reopened_world}
-use Rattle.sky_world.specs.World.{ServiceView, SinkGot, WorldView, IsBeside, IsRecoverable, IsRestart, Stands, StandsAt, StandsFor, Stepped, SteppedPart, SteppedDown, stats_shown}
+use Rattle.sky_world.specs.World.{ServiceView, SinkGot, WorldView, IsBeside, IsRecoverable, IsRestart, Stands, StandsAt, SessionStandsFor, Stepped, SteppedPart, SteppedDown, stats_shown}
 use Rattle.sky_world.specs.Feeding.{Handled, HandledPart, HandledDown, HoldsWithin, IsStable, LeavesHolding, WentWithin}
 use Rattle.sky_world.proofs.DiskLaws.{told_both, went_nowhere}
 use Rattle.sky_world.proofs.FeedLaws.{given_one, given_part_one}
@@ -75,7 +77,7 @@ module _ {S : Type 0} (g : Ghosts S) (d e : S) (s t : State) (f : InFrame) (outs
   step_recoverable cloud both = recoverable_step g d e s t f outs step stays cloud both is
 
 -- a session, and the one that it stands for, put in the places of others
-pub stands_with : {S : Type 0} (g : Ghosts S) (d : S) (w : WorldView) (s : State) (number : ℕ) (slot : Session) (session : meaning.Session) → number < session_count → Stands g w d s → StandsFor slot session
+pub stands_with : {S : Type 0} (g : Ghosts S) (d : S) (w : WorldView) (s : State) (number : ℕ) (slot : Session) (session : meaning.Session) → number < session_count → Stands g w d s → SessionStandsFor slot session
     → Stands g (record w { sessions = set w.sessions number slot }) d (with_session s number session)
 stands_with g d w s number slot session lt stands for = record {
   volume = stands.volume;
@@ -93,13 +95,13 @@ stands_with g d w s number slot session lt stands for = record {
 -- ---- the payload of a frame
 
 -- what an open session of the world stands for
-open_of : (received : Received) (x : meaning.Session) → StandsFor (Open received) x → (stream : List ℕ) × (x ≡ meaning.Open stream) × StandsAt received stream
+open_of : (received : Received) (x : meaning.Session) → SessionStandsFor (Open received) x → (stream : List ℕ) × (x ≡ meaning.Open stream) × StandsAt received stream
 open_of received (meaning.Open stream) h = (stream, refl, h)
 open_of received meaning.Absent h = absurd h
 open_of received meaning.Closed h = absurd h
 
 -- what another one stands for is passed over
-passed : (slot : Session) (x : meaning.Session) (number : ℕ) (payload : List ℕ) (s : State) → ((received : Received) → slot ≡ Open received → ⊥) → StandsFor slot x → StepBytes Scarce x number payload s [] s
+passed : (slot : Session) (x : meaning.Session) (number : ℕ) (payload : List ℕ) (s : State) → ((received : Received) → slot ≡ Open received → ⊥) → SessionStandsFor slot x → StepBytes Scarce x number payload s [] s
 passed slot meaning.Absent number payload s closed h = (refl, refl)
 passed slot meaning.Closed number payload s closed h = (refl, refl)
 passed (Open received) (meaning.Open stream) number payload s closed h = absurd (closed received refl)
@@ -110,7 +112,7 @@ passed (Closed received) (meaning.Open stream) number payload s closed h = absur
 abbrev with_sessions : WorldView → List Session → WorldView
 with_sessions w sessions = record w { sessions = sessions }
 
-closed_stands : (slot : Session) (x : meaning.Session) → StandsFor slot x → StandsFor (closed slot) (meaning.ended x)
+closed_stands : (slot : Session) (x : meaning.Session) → SessionStandsFor slot x → SessionStandsFor (closed slot) (meaning.ended x)
 closed_stands Absent meaning.Absent h = tt
 closed_stands Absent (meaning.Open stream) h = absurd h
 closed_stands Absent meaning.Closed h = absurd h
@@ -206,7 +208,7 @@ module _ {S : Type 0} (g : Ghosts S) (w : WorldView) (d e : S) (number : ℕ) (p
   pub stepped_open : (received : Received) (later : ServiceView) (next : Session) → get_or w.sessions number Absent ≡ Open received → Handled g number w.service d received payload later e next sink
       → Stepped g w d (Bytes number payload) (record w { service = later; sessions = set w.sessions number next }) e sink
   stepped_open received later next slot handled = λ s stands.
-      let at = open_of received (session_at s number) (subst (λ (x : Session). StandsFor x (session_at s number)) slot (stands.sessions number)) in
+      let at = open_of received (session_at s number) (subst (λ (x : Session). SessionStandsFor x (session_at s number)) slot (stands.sessions number)) in
       let h = handled s at.0 (omega (arith, stands.state_count, lt)) at.1 stands.service at.2 in
       let new : State = with_session (with_kept s h.1) number h.0 in
       let step : Step Scarce s (Bytes number payload) h.2 new = h.5 in
@@ -242,7 +244,7 @@ module _ {S : Type 0} (g : Ghosts S) (w : WorldView) (d e : S) (number : ℕ) (p
 
   pub stepped_part : (received : Received) → get_or w.sessions number Absent ≡ Open received → HandledPart g number w.service d received payload e sink → SteppedPart g w d (Bytes number payload) e sink
   stepped_part received slot handled = λ s stands.
-      let at = open_of received (session_at s number) (subst (λ (x : Session). StandsFor x (session_at s number)) slot (stands.sessions number)) in
+      let at = open_of received (session_at s number) (subst (λ (x : Session). SessionStandsFor x (session_at s number)) slot (stands.sessions number)) in
       let h = handled s at.0 (omega (arith, stands.state_count, lt)) at.1 stands.service at.2 in
       record {
         under = h.under;
@@ -258,7 +260,7 @@ module _ {S : Type 0} (g : Ghosts S) (w : WorldView) (d e : S) (number : ℕ) (p
 
   pub stepped_down : (received : Received) → get_or w.sessions number Absent ≡ Open received → HandledDown g number w.service d received payload e sink → SteppedDown g w d (Bytes number payload) e sink
   stepped_down received slot handled = λ s stands.
-      let at = open_of received (session_at s number) (subst (λ (x : Session). StandsFor x (session_at s number)) slot (stands.sessions number)) in
+      let at = open_of received (session_at s number) (subst (λ (x : Session). SessionStandsFor x (session_at s number)) slot (stands.sessions number)) in
       let h = handled s at.0 (omega (arith, stands.state_count, lt)) at.1 stands.service at.2 in
       record {
         under = h.under;
@@ -279,7 +281,7 @@ module _ {S : Type 0} (g : Ghosts S) (w : WorldView) (d : S) (told : Option (Lis
   stepped_passed number payload slot is closed = λ s stands.
       let same : set w.sessions number slot ≡ w.sessions = ap (λ (x : Session). set w.sessions number x) (sym is) ∙ set-get_or w.sessions number Absent in
       let pass : (bytes : List ℕ) → Step Scarce s (Bytes number bytes) [] s =
-      λ bytes. passed slot (session_at s number) number bytes s closed (subst (λ (x : Session). StandsFor x (session_at s number)) is (stands.sessions number)) in
+      λ bytes. passed slot (session_at s number) number bytes s closed (subst (λ (x : Session). SessionStandsFor x (session_at s number)) is (stands.sessions number)) in
       let under : RecordUnderWay s (Bytes number payload) = record { said = []; mid = s; own = []; next = s; handled = (0, 0, omega arith, pass (take 0 payload), pass (take 0 payload)); one = omega arith } in
       let then = subst (λ (ss : List Session). Stands g (with_sessions w ss) d s) (sym same) stands in
       ([], s, pass payload, then, Given-none told, leaves_last g d d s (Bytes number payload) under (nothing_happens g w d s stands), stands_find g (with_sessions w (set w.sessions number slot)) d s then)
@@ -422,7 +424,7 @@ module _ {S : Type 0} (g : Ghosts S) (old : WorldView) (s t : S) (found : Found)
     bare_behind epoch kept now =
         both_told_from g s (λ read held. (image : List ℕ) (objects : CloudMap) → MayLeaveNow g t image objects → FindsPrefix epoch kept.mark kept image objects)
         (λ read held is_read held_is.
-        let mid = told_there (λ r l. (older newer : List (List ℕ)) → journal_stands old.service.journal r older newer → journal_stands (wiped old.service.journal) l [] []) (g.image s) (g.image m) read holds is_read in
+        let mid = told_there (λ r l. (older newer : List (List ℕ)) → StandsFor old.service.journal r older newer → StandsFor (wiped old.service.journal) l [] []) (g.image s) (g.image m) read holds is_read in
         both_told_at g m (λ r h. (image : List ℕ) (objects : CloudMap) → MayLeaveNow g t image objects → FindsPrefix epoch kept.mark kept image objects) mid.0 held mid.1 (beside.objects ∙ held_is)
         (found_behind g m t epoch kept (λ old new. Unit {0}) (λ old new. new ≡ claimed old) images claims now))
 

@@ -21,9 +21,11 @@ use Rattle.sky_recover.specs.Opening.{BeginsAt, Found, IsFoundOn, IsLeftOf, IsOp
 use Rattle.sky_sound.specs.Boot.{claimed}
 use Rattle.sky_sound.specs.Recovery.{FindsSame, IsSound, history_of}
 use Rattle.sky_sound.proofs.Texts.{ok_same}
-use Rattle.sky_world.specs.Disk.{AreStorable, HasKept, HoldsPrefix, IsKeptOn, LeavesPrefix, ReadsAsPrefix, entries_to}
+use Rattle.sky_world.specs.Disk.{HoldsPrefix, LeavesPrefix, ReadsTo}
+use Rattle.sky_sound.specs.Invariant.{AreStorable, DiskHas, Invariant, entries_to}
 use Rattle.sky_world.specs.Finding.{FindsPrefix, LeavesFinding}
-use Rattle.sky_world.specs.Meaning.{Kept, State, Restarts, covered_found, cut_to, opening, start}
+use Rattle.sky_world.specs.Meaning.{State, Restarts, covered_found, cut_to, opening, start}
+use Rattle.sky_sound.specs.Kept.{Kept}
 use Rattle.sky_world.specs.Opening.{reopened_world}
 use Rattle.sky_world.specs.World.{IsBeside, Stands, WorldView, tells}
 use Rattle.sky_world.proofs.FindingLaws.{Begins, begins_at, both_told_at, both_told_from, finds_at, finds_same, history_at, leaves_as, leaves_finding, legal_cut, prefix_read, stands_begins, storable_take}

@@ -8,10 +8,12 @@ use Rattle.sky_outside.specs.declared.storage.Storage.{Ghosts}
 use Rattle.sky_outside.proofs.MomentLaws.{HoldsNow-same, LeavesOnly-disk_start, LeavesOnly-disk_then}
 use Rattle.sky_outside.proofs.ToldLaws.{WhereTold-at, WhereTold-from}
 use Rattle.sky_script.specs.Frame.{InFrame, Bytes, OutFrame}
-use Rattle.sky_world.specs.Disk.{HoldsPrefix, IsKeptOn, LeavesPrefix, ReadsAsPrefix, WentOn}
+use Rattle.sky_world.specs.Disk.{HoldsPrefix, LeavesPrefix, ReadsTo, WentOn}
+use Rattle.sky_sound.specs.Invariant.{Invariant}
 use Rattle.sky_world.specs.Feeding.{Acknowledges, Answers, HoldsWithin, IsStable, LeavesHolding, WentWithin}
 use Rattle.sky_world.specs.Finding.{RecordUnderWay}
-use Rattle.sky_world.specs.Meaning.{State, Session, Kept, Open, Scarce, Step, StepBytes, session_at}
+use Rattle.sky_world.specs.Meaning.{State, Session, Open, Scarce, Step, StepBytes, session_at}
+use Rattle.sky_sound.specs.Kept.{Kept}
 use Rattle.sky_world.specs.World.{ServiceView}
 use Rattle.sky_world.proofs.DiskLaws.{both_same, both_then, left_is_prefix, storable_to, told_both}
 

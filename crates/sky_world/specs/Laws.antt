@@ -5,7 +5,7 @@ use Rattle.sky_nfs.specs.History.{History, history_length}
 use Rattle.sky_nfs.specs.declared.call.Change.{Change}
 use Rattle.sky_rpc.specs.Reply.{reply_record}
 use Rattle.sky_script.specs.Frame.{InFrame, Restart, RestartWithoutJournal, OutFrame, Reply}
-use Rattle.sky_world.specs.Meaning.{Kept}
+use Rattle.sky_sound.specs.Kept.{Kept}
 use Rattle.sky_world.specs.Service.{reply_without_memory}
 
 -- a frame tells a session that there was no memory for a call
