@@ -19,7 +19,8 @@ use Rattle.sky_script.specs.Frame.{InFrame, OutFrame, IsInFrame, in_frame, in_fr
 use Rattle.sky_script.proofs.FrameLaws.{frame_same}
 use Rattle.sky_settings.specs.declared.settings.Fields.{Fields}
 use Rattle.sky_sound.specs.Cloud.{epoch_after}
-use Rattle.sky_world.specs.Meaning.{State, Supply, Scarce, Restarts, as_known, untold, covered_found, kept_found, start, Step, Steps, IsStep}
+use Rattle.sky_sound.specs.Kept.{Kept}
+use Rattle.sky_world.specs.Meaning.{State, Supply, Scarce, Restarts, as_known, untold, given_up, reopened, start, Step, Steps, IsStep}
 use Rattle.sky_world.specs.Opening.{IsRefusedAs}
 use Rattle.sky_world.specs.World.{IsRestart, restarts_by, tells}
 use Rattle.sky_world.proofs.FindingLaws.{both_told_at}
@@ -32,9 +33,9 @@ use Rattle.bluesky.proofs.Sites.{tells_both}
 
 -- ---- epochs
 
-restart_claims : (s : State) (n : ℕ) (known : Found) (outs : List OutFrame) (t : State) → s.told ≡ true → known.epoch ≡ s.epoch + 1 → Restarts s known outs t → t.epoch ≡ s.epoch + 1
-restart_claims s n known outs t is next (as_known told reopens) = ap (λ (x : State). x.epoch) reopens.1 ∙ next
-restart_claims s n known outs t is next (untold found silent may reopens) = absurd (true≢false (sym is ∙ silent))
+restart_claims : (s : State) (known : Kept) (outs : List OutFrame) (t : State) → s.told ≡ true → Restarts s known outs t → t.epoch ≡ s.epoch + 1
+restart_claims s known outs t is (as_known told reopens said) = ap (λ (x : State). x.epoch) reopens
+restart_claims s known outs t is (untold found silent may reopens said) = absurd (true≢false (sym is ∙ silent))
 
 -- on a site that tells what it has, a step comes to the epochs that its frame claims
 step_claims : (mem : Supply) (s t : State) (f : InFrame) (outs : List OutFrame) → s.told ≡ true → Step mem s f outs t → t.epoch ≡ s.epoch + restarts_by f
@@ -43,8 +44,8 @@ step_claims mem s t (frame.Bytes n payload) outs is p = omega (arith, (step_same
 step_claims mem s t (frame.Close n) outs is p = omega (arith, (step_same mem s t (frame.Close n) outs (λ r. r) p).1)
 step_claims mem s t (frame.SetMoment at) outs is p = omega (arith, (step_same mem s t (frame.SetMoment at) outs (λ r. r) p).1)
 step_claims mem s t frame.Stat outs is p = omega (arith, (step_same mem s t frame.Stat outs (λ r. r) p).1)
-step_claims mem s t frame.Restart outs is p = restart_claims s 0 (kept_found s) outs t is refl p
-step_claims mem s t frame.RestartWithoutJournal outs is p = restart_claims s 0 (covered_found s) outs t is refl p
+step_claims mem s t frame.Restart outs is p = restart_claims s (reopened s.kept) outs t is p
+step_claims mem s t frame.RestartWithoutJournal outs is p = restart_claims s (given_up s.kept) outs t is p
 step_claims mem s t frame.End outs is p = absurd p
 
 steps_claim : (mem : Supply) (s t : State) (fs : List InFrame) (outs : List OutFrame) → s.told ≡ true → Steps mem s fs outs t → (t.epoch ≡ s.epoch + restarts_in fs) × (t.told ≡ true)

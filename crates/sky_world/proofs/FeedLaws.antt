@@ -148,7 +148,7 @@ module _ {S : Type 0} (g : Ghosts S) (s : State) (n : ℕ) (stream : List ℕ) (
       → ServesFor g after e (with_kept s kept) × WentOn g d e kept.mark kept
   rested kept before after d e rests serves = (
     subst (λ (x : ServiceView). ServesFor g x e (with_kept s kept)) (sym rests.0) (subst (λ (x : S). ServesFor g before x (with_kept s kept)) (sym rests.1) serves),
-    subst (λ (x : S). WentOn g d x kept.mark kept) (sym rests.1) (went_nowhere g kept d serves.kept),
+    subst (λ (x : S). WentOn g d x kept.mark kept) (sym rests.1) (went_nowhere g s.epoch kept before.journal d serves.invariant),
   )
 
   -- a record that leaves the session open, whatever else its stream has

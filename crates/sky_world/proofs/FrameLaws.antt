@@ -1,5 +1,5 @@
 -- Laws of frames: each but the end has a step where streams and payloads are of bytes, and only one; so do lists of frames.
-use Rattle.std.proofs.Common.{◌≡◌, ℕ, Bool, true, Option, Some, None, List, [], ◌∷◌, ◌++◌, inl, inr, refl, sym, ap, subst, ◌∙◌}
+use Rattle.std.proofs.Common.{◌≡◌, ◌+◌, ℕ, Bool, true, Option, Some, None, List, [], ◌∷◌, ◌++◌, inl, inr, refl, sym, ap, subst, ◌∙◌}
 use Rattle.std.proofs.lemmas.Bool.{true≢false}
 use Rattle.std.specs.List.{AllByRecursion}
 use Rattle.sky_record.specs.Stream.{Progress, AtHeader, InFragment, Whole, TooLong, Received}
@@ -9,7 +9,8 @@ use Rattle.sky_script.specs.Frame.{InFrame, OutFrame, Counted, session_count}
 use Rattle.sky_world.specs.Bytes.{AreBytes, HasBytes, HasByteStreams, CarriesBytes}
 use Rattle.sky_recover.specs.Opening.{Found}
 use Rattle.sky_world.specs.Laws.{IsForeseen}
-use Rattle.sky_world.specs.Meaning.{State, Session, Absent, Open, Closed, Supply, Ample, start, stats_of, opening, Restarts, as_known, untold, covered_found, kept_found, after_reply, session_at, with_kept, with_session, ended, Then, Closes, StepRecord, StepRecords, StepProgress, StepBytes, Step, Steps, IsStep}
+use Rattle.sky_sound.specs.Kept.{Kept}
+use Rattle.sky_world.specs.Meaning.{State, Session, Absent, Open, Closed, Supply, Ample, start, stats_of, opened_state, opening_of, Restarts, as_known, untold, given_up, reopened, after_reply, session_at, with_kept, with_session, ended, Then, Closes, StepRecord, StepRecords, StepProgress, StepBytes, Step, Steps, IsStep}
 use Rattle.sky_world.proofs.SiteLaws.{step_tells}
 use Rattle.sky_world.proofs.SessionLaws.{all-replicate, all-set, all-at}
 use Rattle.sky_world.proofs.StepLaws.{open_or_not, of_open, of_closed, records_some, progress_some, IsOne, both, passes_one, then_one, records_one, progress_one}
@@ -82,9 +83,10 @@ ended_has (Open stream) h = tt
 ended_has Closed h = tt
 
 -- at a restart no session has begun
-reopens_some : (known : Found) (s : State) → s.told ≡ true → HasStep (λ (x : State). Restarts x known) s
+reopens_some : (known : Kept) (s : State) → s.told ≡ true → HasStep (λ (x : State). Restarts x known) s
 reopens_some known s told =
-    (opening known ∷ [], record (start s.told known) { moment = s.moment }, all-replicate HasBytes session_count Absent tt, as_known told (refl, refl))
+    let next : State = opened_state s.told (s.epoch + 1) s.moment known in
+    (opening_of next ∷ [], next, all-replicate HasBytes session_count Absent tt, as_known told refl refl)
 
 pub step_some : (mem : Supply) (old : State) (f : InFrame) → HasByteStreams old → CarriesBytes f → IsForeseen old.told f → IsStep f → (outs : List OutFrame) × (new : State) × HasByteStreams new × Step mem old f outs new
 step_some mem old (frame.Begin n) h carries seen is = ([], with_session old n (Open []), all-set HasBytes old.sessions n (Open []) h tt, (refl, refl))
@@ -94,8 +96,8 @@ step_some mem old (frame.Close n) h carries seen is =
     ([], with_session old n x, all-set HasBytes old.sessions n x h (ended_has (session_at old n) (all-at HasBytes old.sessions n Absent h tt)), (refl, refl))
 step_some mem old (frame.SetMoment at) h carries seen is = ([], record old { moment = at }, h, (refl, refl))
 step_some mem old frame.Stat h carries seen is = (Counted (stats_of old) ∷ [], old, h, (refl, refl))
-step_some mem old frame.Restart h carries seen is = reopens_some (kept_found old) old seen
-step_some mem old frame.RestartWithoutJournal h carries seen is = reopens_some (covered_found old) old seen
+step_some mem old frame.Restart h carries seen is = reopens_some (reopened old.kept) old seen
+step_some mem old frame.RestartWithoutJournal h carries seen is = reopens_some (given_up old.kept) old seen
 step_some mem old frame.End h carries seen is = absurd is
 
 -- ---- and only one
@@ -112,10 +114,12 @@ bytes_one Absent n payload s a b t u p q = passes_one s a b t u p q
 bytes_one Closed n payload s a b t u p q = passes_one s a b t u p q
 
 -- a restart of a site that tells what it has finds one thing
-restarts_one : (known : Found) (s : State) (a b : List OutFrame) (t u : State) → s.told ≡ true → Restarts s known a t → Restarts s known b u → (a ≡ b) × (t ≡ u)
-restarts_one known s a b t u told (as_known x p) (as_known y q) = both s a b (opening known ∷ []) t u (record (start s.told known) { moment = s.moment }) p q
-restarts_one known s a b t u told (untold found silent may p) other = absurd (true≢false (sym told ∙ silent))
-restarts_one known s a b t u told (as_known x p) (untold found silent may q) = absurd (true≢false (sym told ∙ silent))
+restarts_one : (known : Kept) (s : State) (a b : List OutFrame) (t u : State) → s.told ≡ true → Restarts s known a t → Restarts s known b u → (a ≡ b) × (t ≡ u)
+restarts_one known s a b t u told (as_known x p said) (as_known y q too) =
+    let same : t ≡ u = p ∙ sym q in
+    (said ∙ ap (λ (n : State). opening_of n ∷ []) same ∙ sym too, same)
+restarts_one known s a b t u told (untold found silent may p said) other = absurd (true≢false (sym told ∙ silent))
+restarts_one known s a b t u told (as_known x p said) (untold found silent may q too) = absurd (true≢false (sym told ∙ silent))
 
 pub step_one : (old : State) (f : InFrame) (outs others : List OutFrame) (new other : State) → IsForeseen old.told f → Step Ample old f outs new → Step Ample old f others other → (outs ≡ others) × (new ≡ other)
 step_one old (frame.Begin n) a b t u seen p q = both old a b [] t u (with_session old n (Open [])) p q
@@ -123,8 +127,8 @@ step_one old (frame.Bytes n payload) a b t u seen p q = bytes_one (session_at ol
 step_one old (frame.Close n) a b t u seen p q = both old a b [] t u (with_session old n (ended (session_at old n))) p q
 step_one old (frame.SetMoment at) a b t u seen p q = both old a b [] t u (record old { moment = at }) p q
 step_one old frame.Stat a b t u seen p q = both old a b (Counted (stats_of old) ∷ []) t u old p q
-step_one old frame.Restart a b t u seen p q = restarts_one (kept_found old) old a b t u seen p q
-step_one old frame.RestartWithoutJournal a b t u seen p q = restarts_one (covered_found old) old a b t u seen p q
+step_one old frame.Restart a b t u seen p q = restarts_one (reopened old.kept) old a b t u seen p q
+step_one old frame.RestartWithoutJournal a b t u seen p q = restarts_one (given_up old.kept) old a b t u seen p q
 step_one old frame.End a b t u seen p q = absurd p
 
 -- ---- frames, one after the other

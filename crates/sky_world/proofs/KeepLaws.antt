@@ -2,6 +2,8 @@
 use Rattle.std.specs.Prelude.{IsSome, cond, ◌&&◌, ◌||◌, ◌==◌, drop, if◌then◌else◌}
 use Rattle.std.specs.Option.{option_map}
 use Rattle.std.proofs.Common.{◌≡◌, ◌⊎◌, ℕ, ◌+◌, ◌-◌, ◌≤◌, Bool, true, false, Option, Some, None, List, [], ◌∷◌, ◌++◌, map, take, length, inl, inr, ⊎_elim, refl, sym, ap, subst, ◌∙◌, arith, append_assoc}
+use Rattle.std.proofs.lemmas.Bool.{ne_eqb}
+use Rattle.std.proofs.lemmas.List.Sums.{sum_by_push}
 use Rattle.std.proofs.lemmas.List.{append-nil, length-append, length-drop, length-map, length-take, map-append, take_all, drop_all, take-append-drop, drop-append-le}
 use Rattle.sky_calls.specs.Durable.{HoldsMore, LeavesOldOrMore, journal_after}
 use Rattle.sky_entry.specs.Entry.{entry_bytes}
@@ -102,13 +104,14 @@ stored_more more None some = absurd cc
 -- ---- what is kept of the journal
 
 bytes_more : (es : List (List ℕ)) (e : List ℕ) → bytes_of (es ++ e ∷ []) ≡ bytes_of es + length e
-bytes_more [] e = omega arith
-bytes_more (x ∷ es) e = omega (arith, bytes_more es e)
+bytes_more es e = sum_by_push (λ (x : List ℕ). length x) es e
 
 -- a batch is as large as the bytes and the number of its entries say
 batch_is : (more : List (List ℕ)) → batch_size more ≡ batch_bytes (length more) (bytes_of more)
 batch_is [] = refl
-batch_is (e ∷ es) = refl
+batch_is (e ∷ es) =
+    let some : (length (e ∷ es) == 0) ≡ false = ne_eqb _ _ (λ x. omega (arith, x)) in
+    ap (λ (b : Bool). cond b 0 (batch_header + bytes_of (e ∷ es))) (sym some)
 
 area_is : (a : OpenArea) (more : List (List ℕ)) (number : ℕ) → a.last + length more ≡ number → area_state (area_with more a) ≡ filled_to number (bytes_of more) (area_state a)
 area_is a more number e =

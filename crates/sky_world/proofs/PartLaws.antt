@@ -40,14 +40,14 @@ above_all covers base [] le = refl
 above_all covers base (e ∷ es) le =
     above_yes covers (base + 1, e) (numbered (base + 1) es) (omega arith) ∙ ap (λ (l : List (ℕ × List ℕ)). (base + 1, e) ∷ l) (above_all covers (base + 1) es (omega arith))
 
-drop_none : (n : ℕ) → (let none : List (List ℕ) = [] in drop n none ≡ none)
+drop_none : {A : Type 0} (n : ℕ) → (let none : List A = [] in drop n none ≡ none)
 drop_none zero = refl
 drop_none (suc n) = refl
 
 -- those above a number are those behind the first ones
 pub above_drop : (covers base : ℕ) (es : List (List ℕ)) → base ≤ covers → entries_above covers (numbered base es) ≡ numbered covers (drop (covers - base) es)
 unfolding numbered
-above_drop covers base [] le = sym (ap (λ (l : List (List ℕ)). numbered covers l) (drop_none (covers - base)))
+above_drop covers base [] le = sym (ap (λ (l : List (List ℕ)). numbered covers l) (drop_none {A = List ℕ} (covers - base)))
 above_drop covers base (e ∷ es) le =
     ⊎_elim
     (λ (lt : base < covers).
@@ -74,12 +74,8 @@ storable_drop (suc k) (c ∷ cs) all = storable_drop k cs all.1
 
 pub drop_twice : {A : Type 0} (k m : ℕ) (xs : List A) → drop m (drop k xs) ≡ drop (k + m) xs
 drop_twice zero m xs = ap (λ (n : ℕ). drop n xs) (omega arith)
-drop_twice {A} (suc k) m [] = drop_empty m
-  where
-    drop_empty : (n : ℕ) → (let none : List A = [] in drop n none ≡ none)
-    drop_empty zero = refl
-    drop_empty (suc n) = refl
-drop_twice (suc k) m (x ∷ xs) = drop_twice k m xs ∙ ap (λ (n : ℕ). drop n (x ∷ xs)) (omega arith)
+drop_twice {A} (suc k) m [] = drop_none {A = A} m ∙ sym (drop_none {A = A} (suc k + m))
+drop_twice (suc k) m (x ∷ xs) = let e : suc (k + m) ≡ suc k + m = omega arith in drop_twice k m xs ∙ ap (λ (n : ℕ). drop n (x ∷ xs)) e
 
 both_of : (a b : Bool) → (a && b) ≡ true → (a ≡ true) × (b ≡ true)
 both_of true b e = (refl, e)

@@ -51,7 +51,7 @@ got before after = record { before = before; after = after }
 
 -- a state with what it has
 same_state : {S : Type 0} (g : Ghosts S) (service : ServiceView) (d : S) (s : State) → ServesFor g service d s → ServesFor g service d (with_kept s s.kept)
-same_state g service d s serves = record { epoch = serves.epoch; tree = serves.tree; moment = serves.moment; journal = serves.journal; kept = serves.kept }
+same_state g service d s serves = record { epoch = serves.epoch; tree = serves.tree; moment = serves.moment; invariant = serves.invariant }
 
 pub so_far_begins : {S : Type 0} (g : Ghosts S) (number : ℕ) (first : ServiceView) (d : S) (initial : Received) (payload : List ℕ) (before : Option (List ℕ)) → IsOpen initial.progress
     → SoFar g number first d initial payload 0 first d initial (got before before)
@@ -63,7 +63,7 @@ so_far_begins g number first d initial payload before ready = record {
       let at_start : State = fed s number (stream ++ []) s.kept in
       let step : StepBytes Scarce (Open stream) number [] s [] at_start = under_way_whole g s number stream lt [] [] s.kept initial u ready in
       let under : RecordUnderWay s (Bytes number payload) = under_way s number stream payload open_is 0 0 (omega arith) [] [] at_start at_start step step (omega arith) in
-      ([], s.kept, same_state g first d s serves, u, Given-none before, within_begins g s (Bytes number payload) under d s.kept serves.kept refl refl);
+      ([], s.kept, same_state g first d s serves, u, Given-none before, within_begins g s (Bytes number payload) under d s.kept serves.invariant refl refl);
 }
 
 module _ {S : Type 0} (g : Ghosts S) (number : ℕ) (first : ServiceView) (d : S) (initial : Received) (payload : List ℕ) (taken : ℕ) (service : ServiceView) (e : S) (old : Received) (before mid after : Option (List ℕ))
@@ -132,7 +132,7 @@ module _ {S : Type 0} (g : Ghosts S) (number : ℕ) (first : ServiceView) (d : S
         less = part.1;
         given = part.2;
         went = within_went g s (Bytes number payload) under d e f h.5 on.3;
-        stable = kept_stable g on.0 f on.1.kept;
+        stable = kept_stable g on.0 f on.1.invariant;
         rest = ends.0;
         last = ends.1;
         goes_on = as_step s number stream payload open_is payload ((h.0 ++ outs) ++ ends.0) ends.1 ends.2;
@@ -153,7 +153,7 @@ module _ {S : Type 0} (g : Ghosts S) (number : ℕ) (first : ServiceView) (d : S
         less = part.1;
         given = part.2;
         went = within_went g s (Bytes number payload) under d e f h.5 ends.3;
-        stable = kept_stable g ends.0 f ends.1.kept;
+        stable = kept_stable g ends.0 f ends.1.invariant;
         rest = [];
         last = next;
         goes_on = subst (λ (o : List OutFrame). Step Scarce s (Bytes number payload) o next) (sym (append-nil (h.0 ++ outs))) whole;

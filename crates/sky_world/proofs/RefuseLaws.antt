@@ -24,10 +24,10 @@ use Rattle.sky_sound.proofs.Above.{history_from_entries}
 use Rattle.sky_sound.proofs.Texts.{ok_same}
 use Rattle.sky_world.specs.Meaning.{State}
 use Rattle.sky_world.specs.Opening.{IsOfOpening, IsRefusedAs, MayRefuse}
-use Rattle.sky_world.specs.World.{IsBeside, RestartFailed, SinkGot, Stands, StepFailed, WorldView}
-use Rattle.sky_world.proofs.FindingLaws.{both_told_at, stands_sound}
+use Rattle.sky_world.specs.World.{RestartFailed, SinkGot, Stands, StepFailed, WorldView}
+use Rattle.sky_world.proofs.FindingLaws.{both_told_at, sound_now}
 use Rattle.sky_world.proofs.ReopenLaws.{Has, has_told, restart_leaves}
-use Rattle.sky_world.proofs.WipeLaws.{HoldsNone, LeavesWiped, bare_beside, bare_leaves, bare_sound, bare_tells, wipe_leaves}
+use Rattle.sky_world.proofs.WipeLaws.{HoldsNone, LeavesWiped, bare_epoch, bare_leaves, bare_sound, bare_tells, wipe_leaves}
 
 -- ---- a sound site is foreign nowhere
 
@@ -108,20 +108,20 @@ module _ {S : Type 0} (g : Ghosts S) (volume size : ℕ) (state : State) (s : S)
 -- ---- a restart
 
 module _ {S : Type 0} (g : Ghosts S) (old : WorldView) (s : S) (state : State) (stands : Stands g old s state) where
-  sound_here : (image : List ℕ) (objects : CloudMap) → IsSound state.kept.journal.volume state.kept.journal.size image objects → IsSound old.settings.volume old.settings.journal_area image objects
+  sound_here : (image : List ℕ) (objects : CloudMap) → IsSound state.kept.history.tree.volume state.kept.journal.size image objects → IsSound old.settings.volume old.settings.journal_area image objects
   sound_here image objects sound =
-      subst (λ (v : ℕ). IsSound v old.settings.journal_area image objects) (sym stands.volume) (subst (λ (z : ℕ). IsSound state.kept.journal.volume z image objects) (sym stands.area) sound)
+      subst (λ (v : ℕ). IsSound v old.settings.journal_area image objects) (sym stands.volume) (subst (λ (z : ℕ). IsSound state.kept.history.tree.volume z image objects) (sym stands.area) sound)
 
   -- one is refused where the site tells nothing, or no epoch is left
   pub restart_refused : (status : Status) → WhereBothTold g s (IsRefusedAs old.settings.volume old.settings.journal_area status) → MayRefuse status state
   restart_refused status refused =
       may_refuse g old.settings.volume old.settings.journal_area state s
       (λ told.
-      let has = has_told g s (sym stands.recoverable.told ∙ told) in
+      let has = has_told g s (sym stands.told ∙ told) in
       record {
         has = has;
-        sound = sound_here has.image has.objects (stands_sound g old s state stands has.image has.objects has.is has.held);
-        epoch = (WhereTold-at (g.objects s) (IsBeside state) has.objects has.held stands.recoverable.cloud).epoch;
+        sound = sound_here has.image has.objects (sound_now g state.epoch state.kept old.service.journal s stands.service.invariant has.image has.objects has.is has.held);
+        epoch = WhereTold-at (g.objects s) (λ o. epoch_after o ≡ state.epoch + 1) has.objects has.held stands.service.invariant.epoch_is;
       }) status refused
 
   -- and one without the journal
@@ -134,7 +134,7 @@ module _ {S : Type 0} (g : Ghosts S) (old : WorldView) (s : S) (state : State) (
       record {
         has = has;
         sound = sound_here has.image has.objects (bare_sound g old s m state stands leaves holds beside has.image has.objects has.is has.held);
-        epoch = (WhereTold-at (g.objects m) (IsBeside state) has.objects has.held (bare_beside g old s m state stands leaves holds beside)).epoch;
+        epoch = bare_epoch g old s m state stands leaves holds beside has.objects has.held;
       }) status refused
 
 -- ---- one that came to no end

@@ -111,8 +111,8 @@ module _ {S : Type 0} (g : Ghosts S) where
       state.kept,
       answered state serves,
       subst (λ (v : ServiceView). ServesFor g v t (with_kept state state.kept)) (sym rests.0) (subst (λ (d : S). ServesFor g old d (with_kept state state.kept)) (sym rests.1)
-          (record { epoch = serves.epoch; tree = serves.tree; moment = serves.moment; journal = serves.journal; kept = serves.kept })),
-      subst (λ (d : S). WentOn g s d state.kept.mark state.kept) (sym rests.1) (went_nowhere g state.kept s serves.kept),
+          (record { epoch = serves.epoch; tree = serves.tree; moment = serves.moment; invariant = serves.invariant })),
+      subst (λ (d : S). WentOn g s d state.kept.mark state.kept) (sym rests.1) (went_nowhere g state.epoch state.kept old.journal s serves.invariant),
     );
   }
 

@@ -3,8 +3,8 @@ use Rattle.std.proofs.Common.{◌≡◌, ℕ, Option, Some, None, List, [], ◌�
 use Rattle.sky_record.specs.Stream.{Progress, AtHeader, InFragment, Whole, TooLong}
 use Rattle.sky_script.specs.Frame as frame
 use Rattle.sky_script.specs.Frame.{InFrame, OutFrame}
-use Rattle.sky_recover.specs.Opening.{Found}
-use Rattle.sky_world.specs.Meaning.{State, Session, Absent, Open, Closed, Supply, Restarts, as_known, untold, after_reply, covered_found, kept_found, session_at, with_kept, with_session, Passes, Then, Closes, StepRecord, StepRecords, StepProgress, StepBytes, Step}
+use Rattle.sky_sound.specs.Kept.{Kept}
+use Rattle.sky_world.specs.Meaning.{State, Session, Absent, Open, Closed, Supply, Restarts, as_known, untold, after_reply, given_up, reopened, session_at, with_kept, with_session, Passes, Then, Closes, StepRecord, StepRecords, StepProgress, StepBytes, Step}
 use Rattle.sky_world.specs.World.{IsRestart}
 use Rattle.sky_world.proofs.StepLaws.{open_or_not, of_open, of_closed}
 
@@ -75,9 +75,9 @@ step_same mem s t frame.Restart outs plain p = absurd (plain tt)
 step_same mem s t frame.RestartWithoutJournal outs plain p = absurd (plain tt)
 step_same mem s t frame.End outs plain p = absurd p
 
-restart_tells : (s : State) (known : Found) (outs : List OutFrame) (t : State) → Restarts s known outs t → t.told ≡ s.told
-restart_tells s known outs t (as_known told is) = ap (λ (x : State). x.told) is.1
-restart_tells s known outs t (untold found silent may is) = ap (λ (x : State). x.told) is.1
+restart_tells : (s : State) (known : Kept) (outs : List OutFrame) (t : State) → Restarts s known outs t → t.told ≡ s.told
+restart_tells s known outs t (as_known told is said) = ap (λ (x : State). x.told) is
+restart_tells s known outs t (untold found silent may is said) = ap (λ (x : State). x.told) is
 
 -- and each frame leaves whether the site tells what it has
 pub step_tells : (mem : Supply) (s t : State) (f : InFrame) (outs : List OutFrame) → Step mem s f outs t → t.told ≡ s.told
@@ -86,6 +86,6 @@ step_tells mem s t (frame.Bytes n payload) outs p = (step_same mem s t (frame.By
 step_tells mem s t (frame.Close n) outs p = (step_same mem s t (frame.Close n) outs (λ r. r) p).0
 step_tells mem s t (frame.SetMoment at) outs p = (step_same mem s t (frame.SetMoment at) outs (λ r. r) p).0
 step_tells mem s t frame.Stat outs p = (step_same mem s t frame.Stat outs (λ r. r) p).0
-step_tells mem s t frame.Restart outs p = restart_tells s (kept_found s) outs t p
-step_tells mem s t frame.RestartWithoutJournal outs p = restart_tells s (covered_found s) outs t p
+step_tells mem s t frame.Restart outs p = restart_tells s (reopened s.kept) outs t p
+step_tells mem s t frame.RestartWithoutJournal outs p = restart_tells s (given_up s.kept) outs t p
 step_tells mem s t frame.End outs p = absurd p

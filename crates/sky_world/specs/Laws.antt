@@ -27,7 +27,10 @@ IsForeseen told Restart = told ≡ true
 IsForeseen told RestartWithoutJournal = told ≡ true
 IsForeseen told _ = Unit {0}
 
--- the mark lies within the history
+-- The numbers are in order: what is completed is stored, what is marked is stored, and what is stored lies within the history.
 pub record IsMarked (kept : Kept) : Type 0 where
+  pub begins : kept.history.before ≤ kept.completed
+  pub completed : kept.completed ≤ kept.stored
   pub least : kept.history.before ≤ kept.mark
-  pub most : kept.mark ≤ history_length kept.history
+  pub marked : kept.mark ≤ kept.stored
+  pub most : kept.stored ≤ history_length kept.history

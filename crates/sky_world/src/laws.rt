@@ -47,7 +47,8 @@ pub fn cuts_do_not_matter()
         → Step memory old (Bytes session (first ++ second)) (outs ++ further) new }
 {}
 
-/// The mark, up to which each crash leaves the changes, lies within the history. It does not fall, unless the journal is given up.
+/// The mark, up to which each crash leaves the changes, lies within the history, and so do the numbers of the changes that are stored and of those that
+/// the cloud has for good. The mark does not fall, unless the journal is given up.
 pub fn the_mark_does_not_fall()
     ensures begins { (told : Bool) (found : Found) → IsMarked (start told found).kept }
     ensures within { (memory : Supply) (old new : State) (frame : InFrame) (outs : List OutFrame)
@@ -56,15 +57,15 @@ pub fn the_mark_does_not_fall()
         → Step memory old frame outs new → IsMarked old.kept → old.kept.mark ≤ new.kept.mark }
 {}
 
-/// A restart of a site that tells what it has shows how many changes it found: at least those up to the mark, and no more than there were;
-/// without the journal, those that the cloud covers. The history is cut there, all of it is stable then, and the epoch is the next one.
+/// A restart of a site that tells what it has shows how many changes it found: at least those up to the mark and those that the cloud has for good,
+/// and no more than there were; without the journal, those that the cloud has for good. The history is cut there, all of it is stable then, and the epoch is the next one.
 pub fn a_restart_shows_a_prefix()
     ensures shown { (memory : Supply) (old new : State) (outs : List OutFrame) → old.told ≡ true → IsMarked old.kept → Step memory old Restart outs new
-        → (k : ℕ) × (outs ≡ Opened (old.epoch + 1) k (nat_lt old.kept.history.before k) ∷ []) × (old.kept.mark ≤ k) × (k ≤ history_length old.kept.history)
+        → (k : ℕ) × (outs ≡ Opened (old.epoch + 1) k (nat_lt old.kept.completed k) ∷ []) × (old.kept.mark ≤ k) × (old.kept.completed ≤ k) × (k ≤ history_length old.kept.history)
         × (new.kept.history ≡ cut_to k old.kept.history) × (history_length new.kept.history ≡ k) × (new.kept.mark ≡ k) × (new.epoch ≡ old.epoch + 1) }
-    ensures covered { (memory : Supply) (old new : State) (outs : List OutFrame) → old.told ≡ true → Step memory old RestartWithoutJournal outs new
-        → (outs ≡ Opened (old.epoch + 1) old.kept.history.before false ∷ []) × (new.kept.history ≡ record old.kept.history { changes = [] })
-        × (new.kept.mark ≡ old.kept.history.before) × (new.epoch ≡ old.epoch + 1) }
+    ensures covered { (memory : Supply) (old new : State) (outs : List OutFrame) → old.told ≡ true → IsMarked old.kept → Step memory old RestartWithoutJournal outs new
+        → (outs ≡ Opened (old.epoch + 1) old.kept.completed false ∷ []) × (new.kept.history ≡ cut_to old.kept.completed old.kept.history)
+        × (new.kept.mark ≡ old.kept.completed) × (new.epoch ≡ old.epoch + 1) }
 {}
 
 /// There is one history: it is legal at the start and after each frame. Each frame but a restart adds its changes behind those of the
