@@ -3,7 +3,8 @@ use Rattle.std.specs.Prelude.{IsSome, IsTrue, cond, ◌&&◌}
 use Rattle.std.proofs.Common.{◌≡◌, ◌⊎◌, ℕ, Bool, true, false, Option, Some, None, List, ◌++◌, refl, sym, ap, subst, ◌∙◌}
 use Rattle.sky_base.specs.declared.cred.Cred.{Cred}
 use Rattle.sky_base.specs.declared.moment.Moment.{Moment}
-use Rattle.sky_calls.specs.Durable.{LeavesOldOrMore, journal_after}
+use Rattle.sky_calls.specs.Durable.{journal_after}
+use Rattle.sky_journal.specs.Lasting.{LeavesOldOrMore}
 use Rattle.sky_calls.proofs.Carried.{procedure_tree}
 use Rattle.sky_calls.proofs.Moments.{StandsOn-spare}
 use Rattle.sky_calls.specs.Stable.{is_stable_call}

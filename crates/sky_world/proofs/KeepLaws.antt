@@ -3,7 +3,8 @@ use Rattle.std.specs.Prelude.{IsSome, cond, ◌&&◌, ◌||◌, drop}
 use Rattle.std.specs.Option.{option_map}
 use Rattle.std.proofs.Common.{◌≡◌, ◌⊎◌, ℕ, ◌+◌, ◌-◌, ◌≤◌, Bool, true, false, Option, Some, None, List, [], ◌∷◌, ◌++◌, map, take, length, inl, inr, ⊎_elim, refl, sym, ap, subst, ◌∙◌, arith, append_assoc}
 use Rattle.std.proofs.lemmas.List.{append-nil, length-append, length-drop, length-map, map-append, take_all, drop_all, take-append-drop, drop-append-le}
-use Rattle.sky_calls.specs.Durable.{HoldsMore, LeavesOldOrMore, journal_after}
+use Rattle.sky_calls.specs.Durable.{journal_after}
+use Rattle.sky_journal.specs.Lasting.{HoldsMore, LeavesOldOrMore}
 use Rattle.sky_entry.specs.Entry.{entry_bytes}
 use Rattle.sky_journal.specs.Journal.{JournalView, IsJournal, StandsFor, StandsOn, Reads, after_commit, area_with, base_in, numbered_in, entries, first_base, last_of, number_behind}
 use Rattle.sky_journal.specs.Text.{numbered}
