@@ -7,7 +7,8 @@ use Rattle.std.proofs.lemmas.Bool.Decides.{nat_tests}
 use Rattle.std.proofs.lemmas.List.{append-nil}
 use Rattle.sky_base.specs.declared.cred.Cred.{Cred}
 use Rattle.sky_base.specs.declared.moment.Moment.{Moment}
-use Rattle.sky_calls.specs.Durable.{HoldsMore, IfDone, IfJukebox, IfPutOff, LeavesOldOrAll, LeavesOldOrMore, entries_kept, is_down, journal_after}
+use Rattle.sky_calls.specs.Durable.{IfDone, IfJukebox, IfPutOff, LeavesOldOrAll, entries_kept, is_down, journal_after}
+use Rattle.sky_journal.specs.Lasting.{HoldsMore, LeavesOldOrMore}
 use Rattle.sky_calls.specs.Stable.{is_stable_call}
 use Rattle.sky_calls.specs.declared.outcome.Outcome.{Outcome}
 use Rattle.sky_calls.specs.declared.outcome.Outcome.TheVariants.{Done, Jukebox, Down, Memory}

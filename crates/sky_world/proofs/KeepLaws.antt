@@ -5,7 +5,8 @@ use Rattle.std.proofs.Common.{◌≡◌, ◌⊎◌, ℕ, ◌+◌, ◌-◌, ◌�
 use Rattle.std.proofs.lemmas.Bool.{ne_eqb}
 use Rattle.std.proofs.lemmas.List.Sums.{sum_by_push}
 use Rattle.std.proofs.lemmas.List.{append-nil, length-append, length-drop, length-map, length-take, map-append, take_all, drop_all, take-append-drop, drop-append-le}
-use Rattle.sky_calls.specs.Durable.{HoldsMore, LeavesOldOrMore, journal_after}
+use Rattle.sky_calls.specs.Durable.{journal_after}
+use Rattle.sky_journal.specs.Lasting.{HoldsMore, LeavesOldOrMore}
 use Rattle.sky_entry.specs.Entry.{entry_bytes}
 use Rattle.sky_journal.specs.Journal.{JournalView, IsJournal, StandsFor, StandsOn, Reads, SameButSpare, after_commit, area_with, base_in, batch_size, bytes_of, numbered_in, entries, first_base, last_of, number_behind, room_in, room_of, wanted_of}
 use Rattle.sky_base.specs.Limits.{max_number}

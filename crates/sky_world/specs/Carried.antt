@@ -1,6 +1,7 @@
 -- What becomes of the tree, of the journal and of its disk by a call of NFS, in the program.
 use Rattle.std.specs.Prelude.{◌≡◌, ◌≤◌, ℕ, Bool, true, false, ◌&&◌, is_ok, cond, nat_lt, IsTrue, List, [], ◌∷◌, ◌++◌, length}
-use Rattle.sky_calls.specs.Durable.{HoldsMore, LeavesOldOrMore, journal_after}
+use Rattle.sky_calls.specs.Durable.{journal_after}
+use Rattle.sky_journal.specs.Lasting.{HoldsMore, LeavesOldOrMore}
 use Rattle.sky_calls.specs.Stable.{is_stable_call}
 use Rattle.sky_calls.specs.declared.outcome.Outcome.{Outcome}
 use Rattle.sky_calls.specs.declared.outcome.Outcome.TheVariants.{Done, Jukebox, Down, Memory}
