@@ -151,18 +151,6 @@ module _ {S : Type 0} (g : Ghosts S) (volume size : ℕ) (s : S) where
         let f = WhereTold-at (g.image s) (λ x. (list : List (ℕ × List ℕ)) × (journal_of volume size 0 x ≡ Ok list) × FailsAt (empty_tree volume) size 0 list x at) image told (foreign at refl) in
         inr (record { no_checkpoint = none_at objects held; list = f.0; says = f.1; fails = f.2 }))
 
-    -- what the list said of the epoch is so
-    pub judged_claim : (T : Type 0) (why : ClaimFault) → WhereTold (g.objects s) (IsJudged (failed T (of_claim why)))
-    judged_claim T claim.DiskFault = claimable
-    judged_claim T claim.CloudFault = WhereTold-from (g.objects s) (IsJudged (failed T fault.CloudFault)) (λ objects held. tt)
-    judged_claim T claim.Memory = WhereTold-from (g.objects s) (IsJudged (failed T fault.Memory)) (λ objects held. tt)
-    judged_claim T (claim.Foreign at) = claimable
-
-    pub judged_replay : (T : Type 0) (why : ReplayFault) → WhereTold (g.objects s) (IsJudged (failed T (of_replay why)))
-    judged_replay T replay.DiskFault = claimable
-    judged_replay T replay.Memory = WhereTold-from (g.objects s) (IsJudged (failed T fault.Memory)) (λ objects held. tt)
-    judged_replay T (replay.Foreign at) = claimable
-
   -- where a sound site is refused, it is by its devices or for want of memory
   pub sound_ends : (T : Type 0) (why : OpenFault) → WhereBothTold g s (IsRefusedBy volume size why)
       → WhereBothTold g s (λ image objects. IsSound volume size image objects → IsOfDevices (failed T why))

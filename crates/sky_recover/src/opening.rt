@@ -5,7 +5,7 @@ ghost use Rattle.sky_base.specs.Limits.{max_journal_area, max_number, max_volume
 ghost use Rattle.sky_nfs.specs.Tree.{empty_tree};
 ghost use Rattle.sky_journal.specs.Journal.{IsJournal, StandsOn};
 ghost use Rattle.sky_outside.specs.CloudMap.{after_put, Happened, HappenedOrNot};
-ghost use Rattle.sky_outside.specs.Count.{Counts};
+ghost use Rattle.sky_outside.specs.Count.{Counts, Rose};
 ghost use Rattle.sky_outside.specs.Moments.{LeavesOnly, NothingPending, SameCloud};
 ghost use Rattle.sky_outside.specs.Told.{BothTold, WhereTold};
 ghost use Rattle.sky_sound.specs.Boot.{boot_bytes, boot_name, claimed};
@@ -148,7 +148,10 @@ pub fn recover<S: Site>(
     ensures sound { WhereBothTold S.Storage site.old (λ image objects.
         IsSound settings.now.volume settings.now.journal_area image objects → IsOfDevices result) }
     ensures disk_cause { Counts (S.disk_faults site.old) (S.disk_faults site.new) (IsErrOf result DiskFault) }
-    ensures cloud_cause { Counts (S.cloud_faults site.old) (S.cloud_faults site.new) (IsErrOf result CloudFault) }
+    ensures cloud_grows { S.cloud_faults site.old ≤ S.cloud_faults site.new }
+    ensures cloud_cause { IsErrOf result CloudFault → Rose (S.cloud_faults site.old) (S.cloud_faults site.new) }
+    // This goes as soon as a step that ends well can raise the count.
+    ensures cloud_quiet { (IsErrOf result CloudFault → ⊥) → S.cloud_faults site.new ≡ S.cloud_faults site.old }
 
     ensures tells { OnOk result (BothTold (λ old new. Unit {0}) (S.image site.old) (S.image site.new)) }
     ensures size { S.bytes_of site.new ≡ S.bytes_of site.old }
