@@ -4,4 +4,5 @@ pub mod Entries
 pub mod Invariant
 pub mod Kept
 pub mod Recovery
+pub mod Refusal
 pub mod Settled
