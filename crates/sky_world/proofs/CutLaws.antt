@@ -2,7 +2,7 @@
 use Rattle.std.proofs.Common.{◌≡◌, ℕ, ◌<◌, true, false, Option, Some, None, List, [], ◌∷◌, ◌++◌, length, ◌⊎◌, ⊎_elim, inl, inr, refl, sym, ap, subst, ◌∙◌, append_assoc}
 use Rattle.std.proofs.lemmas.Bool.{cases_lt}
 use Rattle.std.proofs.lemmas.List.{append-nil, get_or_past}
-use Rattle.sky_record.specs.Stream.{Progress, AtHeader, InFragment, Whole, TooLong, Received, Reads, Completes}
+use Rattle.sky_record.specs.Stream.{Progress, AtHeader, InFragment, Whole, TooLong, Received, ReadsRecords, Completes}
 use Rattle.sky_record.proofs.Reading.{one_reading, closed_reads_on}
 use Rattle.sky_script.specs.Frame as frame
 use Rattle.sky_script.specs.Frame.{OutFrame}
@@ -122,7 +122,7 @@ module _ (mem : Supply) (s : State) (n : ℕ) (lt : n < length s.sessions) where
         let y : List ℕ = stream ++ (p ++ q) in
         let end : Received = record { bytes = bytes; progress = TooLong } in
         let read = closed_reads_on (stream ++ p) q (c.before ++ records) bytes TooLong c.goes_on (λ o. o) in
-        let goes_on = subst (λ (t : List ℕ). Reads t (c.before ++ records) end) text_is read in
+        let goes_on = subst (λ (t : List ℕ). ReadsRecords t (c.before ++ records) end) text_is read in
         let closes : Closes n (at h y) (frame.Closed n ∷ []) (shut h) = (refl, sym (shut_twice h y)) in
         (records, end, record { before = c.before; part = c.part; read = c.read; goes_on = goes_on }, (at h y, outs, frame.Closed n ∷ [], steps, where_open (Closes n) n (at h y) (frame.Closed n ∷ []) (shut h) (at_open h y) closes, refl))
 
@@ -134,7 +134,7 @@ module _ (mem : Supply) (s : State) (n : ℕ) (lt : n < length s.sessions) where
         let y : List ℕ = stream ++ (p ++ q) in
         let before : d.before ≡ c.before ++ records = (one_reading (stream ++ p) d.before (c.before ++ records) d.part end d.read c.goes_on).0 in
         let records_are : d.before ++ later ≡ c.before ++ (records ++ later) = ap (λ (t : List (List ℕ)). t ++ later) before ∙ append_assoc c.before records later in
-        let goes_on = subst (λ (t : List (List ℕ)). Reads y t last) records_are (subst (λ (t : List ℕ). Reads t (d.before ++ later) last) text_is d.goes_on) in (
+        let goes_on = subst (λ (t : List (List ℕ)). ReadsRecords y t last) records_are (subst (λ (t : List ℕ). ReadsRecords t (d.before ++ later) last) text_is d.goes_on) in (
           records ++ later,
           last,
           record { before = c.before; part = c.part; read = c.read; goes_on = goes_on },

@@ -3,7 +3,7 @@ use Rattle.std.specs.Prelude.{drop, max}
 use Rattle.std.proofs.Common.{◌≡◌, ℕ, ◌-◌, ◌≤◌, Option, Some, None, List, [], ◌++◌, map, take, length, refl, sym, ap, subst, ◌∙◌, arith, append_assoc, ⊎_elim, inl, inr}
 use Rattle.std.proofs.lemmas.List.{append-nil, length-append, take-append-le}
 use Rattle.sky_entry.specs.Entry.{entry_bytes}
-use Rattle.sky_journal.specs.Journal.{JournalView, IsJournal, Reads, ReadsAs, entries, first_base}
+use Rattle.sky_journal.specs.Journal.{JournalView, IsJournal, ReadsEntries, ReadsAs, entries, first_base}
 use Rattle.sky_journal.specs.Text.{numbered}
 use Rattle.sky_journal.proofs.Reading.{reads}
 use Rattle.sky_nfs.specs.History.{history_length, tree_after_changes, tree_at_length}
@@ -138,7 +138,7 @@ both_then (Some x) (Some y) (Some z) p q = tt
 -- ---- what the disk has now
 
 -- what reads as the entries that the journal has reads as the changes that are stored
-pub prefix_read : (kept : Kept) (j : JournalView) (image left : List ℕ) → j.volume ≡ kept.history.tree.volume → j.size ≡ kept.journal.size → (has : DiskHas kept j image) → Reads j has.older has.newer left → ReadsTo kept kept.stored left
+pub prefix_read : (kept : Kept) (j : JournalView) (image left : List ℕ) → j.volume ≡ kept.history.tree.volume → j.size ≡ kept.journal.size → (has : DiskHas kept j image) → ReadsEntries j has.older has.newer left → ReadsTo kept kept.stored left
 prefix_read kept j image left volume size has read =
     let b = first_base j in
     let list : entries j has.older has.newer ≡ numbered b (entries_between kept.history b kept.stored) =

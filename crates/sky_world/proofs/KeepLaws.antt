@@ -8,7 +8,7 @@ use Rattle.std.proofs.lemmas.List.{append-nil, length-append, length-drop, lengt
 use Rattle.sky_calls.specs.Durable.{journal_after}
 use Rattle.sky_journal.specs.Lasting.{HoldsMore, LeavesOldOrMore}
 use Rattle.sky_entry.specs.Entry.{entry_bytes}
-use Rattle.sky_journal.specs.Journal.{JournalView, IsJournal, StandsFor, StandsOn, Reads, SameButSpare, after_commit, area_with, base_in, batch_size, bytes_of, numbered_in, entries, first_base, last_of, number_behind, room_in, room_of, wanted_of}
+use Rattle.sky_journal.specs.Journal.{JournalView, IsJournal, StandsFor, StandsOn, ReadsEntries, SameButSpare, after_commit, area_with, base_in, batch_size, bytes_of, numbered_in, entries, first_base, last_of, number_behind, room_in, room_of, wanted_of}
 use Rattle.sky_base.specs.Limits.{max_number}
 use Rattle.sky_journal.specs.Layout.{batch_header}
 use Rattle.sky_journal.specs.Text.{numbered}
@@ -295,11 +295,11 @@ module _ {S : Type 0} (g : Ghosts S) (epoch : ℕ) (s t : S) (kept : Kept) (j : 
         ∙ ap (λ (x : List (List ℕ)). numbered b (x ++ more)) (sym (between_more b has.least has.most))
 
     -- what reads as the entries from before reads as the changes that were stored
-    old_prefix : (image : List ℕ) → Reads j has.older has.newer image → ReadsTo kept kept.stored image
+    old_prefix : (image : List ℕ) → ReadsEntries j has.older has.newer image → ReadsTo kept kept.stored image
     old_prefix image is = prefix_read kept j read image on.volume (size_is g epoch kept j s on) has is
 
     -- and with those that were brought as those that are stored later
-    new_prefix : (image : List ℕ) → Reads j has.older (has.newer ++ brought) image → ReadsTo later later.stored image
+    new_prefix : (image : List ℕ) → ReadsEntries j has.older (has.newer ++ brought) image → ReadsTo later later.stored image
     new_prefix image is =
         let b = first_base j in
         let es = entries_between later.history b later.stored in
@@ -314,7 +314,7 @@ module _ {S : Type 0} (g : Ghosts S) (epoch : ℕ) (s t : S) (kept : Kept) (j : 
               (on.volume ∙ ap (λ (x : Tree). x.volume) (sym moves.extends.tree)) (size_is g epoch kept j s on ∙ sym moves.extends.size) list is;
         }
 
-    prefix_of : (image : List ℕ) → Reads j has.older has.newer image ⊎ Reads j has.older (has.newer ++ brought) image → HoldsPrefix kept.mark later image
+    prefix_of : (image : List ℕ) → ReadsEntries j has.older has.newer image ⊎ ReadsEntries j has.older (has.newer ++ brought) image → HoldsPrefix kept.mark later image
     prefix_of image (inl old) = record {
       n = kept.stored;
       least = omega (arith, on.marked);
@@ -336,7 +336,7 @@ module _ {S : Type 0} (g : Ghosts S) (epoch : ℕ) (s t : S) (kept : Kept) (j : 
       (λ read is.
       let has = WhereTold-at (g.image s) (DiskHas kept j) read is on.disk in
       let l = WhereTold-at (g.image s) (λ r. (older newer : List (List ℕ)) → StandsFor j r older newer
-      → LeavesOnly g s t (BesideObjects g s (λ left. Reads j older newer left ⊎ Reads j older (newer ++ brought) left))) read is leaves has.older has.newer has.laid in
+      → LeavesOnly g s t (BesideObjects g s (λ left. ReadsEntries j older newer left ⊎ ReadsEntries j older (newer ++ brought) left))) read is leaves has.older has.newer has.laid in
       record {
         later = l.later;
         since = λ image objects left. let p = l.since image objects left in (prefix_of read has image p.0, p.1);

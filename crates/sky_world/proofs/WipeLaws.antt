@@ -3,7 +3,7 @@ use Rattle.std.specs.Prelude.{drop, is_some, ◌&&◌}
 use Rattle.std.proofs.Common.{◌≡◌, ◌⊎◌, ℕ, ◌+◌, ◌-◌, ◌≤◌, zero, suc, true, false, Option, Some, None, Ok, List, [], ◌∷◌, ◌++◌, map, take, length, inl, inr, ⊎_elim, refl, sym, ap, subst, ◌∙◌, arith}
 use Rattle.std.proofs.lemmas.List.{append-nil, drop_all, length-append, length-drop, length-map, length-take, map-append, take-map, take-take, take_at}
 use Rattle.sky_entry.specs.Entry.{entry_bytes}
-use Rattle.sky_journal.specs.Journal.{JournalView, AreInOrder, Reads, ReadsAs, StandsFor, base_in, entries, first_base, numbered_in, wiped, without_newer}
+use Rattle.sky_journal.specs.Journal.{JournalView, AreInOrder, ReadsEntries, ReadsAs, StandsFor, base_in, entries, first_base, numbered_in, wiped, without_newer}
 use Rattle.sky_journal.specs.Text.{numbered}
 use Rattle.sky_journal.specs.declared.open_area.OpenArea.{OpenArea}
 use Rattle.sky_journal.proofs.Journals.{IsJournal-wiped}
@@ -95,7 +95,7 @@ module _ {S : Type 0} (g : Ghosts S) (epoch : ℕ) (kept : Kept) (j : JournalVie
   size_same = size_is g epoch kept j s on
 
   -- the entries of the older area are those of the first changes
-  older_prefix : (image left : List ℕ) → (has : DiskHas kept j image) → Reads (without_newer j) [] has.older left → HoldsPrefix kept.completed kept left
+  older_prefix : (image left : List ℕ) → (has : DiskHas kept j image) → ReadsEntries (without_newer j) [] has.older left → HoldsPrefix kept.completed kept left
   older_prefix image left has read =
       let h = kept.history in
       let b : ℕ = first_base j in
@@ -128,7 +128,7 @@ module _ {S : Type 0} (g : Ghosts S) (epoch : ℕ) (kept : Kept) (j : JournalVie
 
   -- what a crash leaves while the areas are closed
   wiped_holds : (image left : List ℕ) → (has : DiskHas kept j image)
-      → Reads j has.older has.newer left ⊎ Reads (without_newer j) [] has.older left ⊎ Reads (wiped j) [] [] left → HoldsPrefix kept.completed kept left
+      → ReadsEntries j has.older has.newer left ⊎ ReadsEntries (without_newer j) [] has.older left ⊎ ReadsEntries (wiped j) [] [] left → HoldsPrefix kept.completed kept left
   wiped_holds image left has (inl both) = record {
     n = kept.stored;
     least = omega arith;
@@ -151,7 +151,7 @@ module _ {S : Type 0} (g : Ghosts S) (epoch : ℕ) (kept : Kept) (j : JournalVie
 abbrev pub LeavesWiped : {S : Type 0} → Ghosts S → JournalView → S → S → Type 0
 LeavesWiped g j s m =
     WhereTold (g.image s) (λ image. (older newer : List (List ℕ)) → StandsFor j image older newer
-    → LeavesOnly g s m (BesideObjects g s (λ left. Reads j older newer left ⊎ Reads (without_newer j) [] older left ⊎ Reads (wiped j) [] [] left)))
+    → LeavesOnly g s m (BesideObjects g s (λ left. ReadsEntries j older newer left ⊎ ReadsEntries (without_newer j) [] older left ⊎ ReadsEntries (wiped j) [] [] left)))
 
 -- and then there are none
 abbrev pub HoldsNone : {S : Type 0} → Ghosts S → JournalView → S → S → Type 0
@@ -179,9 +179,9 @@ module _ {S : Type 0} (g : Ghosts S) (old : WorldView) (s m : S) (state : State)
       (λ image is.
       let has = read_has g state.epoch kept j s on image is in
       let only = WhereTold-at (g.image s) (λ i. (older newer : List (List ℕ)) → StandsFor j i older newer
-      → LeavesOnly g s m (BesideObjects g s (λ left. Reads j older newer left ⊎ Reads (without_newer j) [] older left ⊎ Reads (wiped j) [] [] left))) image is leaves
+      → LeavesOnly g s m (BesideObjects g s (λ left. ReadsEntries j older newer left ⊎ ReadsEntries (without_newer j) [] older left ⊎ ReadsEntries (wiped j) [] [] left))) image is leaves
       has.older has.newer has.laid in
-      leaves_as g s m (BesideObjects g s (λ left. Reads j has.older has.newer left ⊎ Reads (without_newer j) [] has.older left ⊎ Reads (wiped j) [] [] left)) (BesideObjects g s (HoldsPrefix kept.completed kept))
+      leaves_as g s m (BesideObjects g s (λ left. ReadsEntries j has.older has.newer left ⊎ ReadsEntries (without_newer j) [] has.older left ⊎ ReadsEntries (wiped j) [] [] left)) (BesideObjects g s (HoldsPrefix kept.completed kept))
       (λ left now p. (wiped_holds g state.epoch kept j s on image left has p.0, p.1)) only)
 
   -- a crash at any moment of it leaves a prefix of the history

@@ -12,7 +12,7 @@ use Rattle.sky_outside.specs.CloudMap.{CloudMap}
 use Rattle.sky_outside.specs.Moments.{BesideObjects, LeavesOnly, MayLeaveNow, SameCloud}
 use Rattle.sky_outside.specs.Told.{BothTold, Given, WhereTold}
 use Rattle.sky_outside.specs.declared.storage.Storage.{Ghosts}
-use Rattle.sky_record.specs.Stream.{Received, TooLong, nothing, IsOpen, Reads}
+use Rattle.sky_record.specs.Stream.{Received, TooLong, nothing, IsOpen, ReadsRecords}
 use Rattle.sky_results.specs.Answers.{answer_bytes}
 use Rattle.sky_rpc.specs.Reply.{Success, reply_record}
 use Rattle.sky_rpc.specs.Values.{reply_of, results_count}
@@ -103,7 +103,7 @@ FailsMessage g old s _ t = ⊥
 -- of the next one `new` is received
 abbrev pub GoesOn : Received → List ℕ → List (List ℕ) → Received → Type 0
 GoesOn old bytes further new =
-    (stream : List ℕ) (records : List (List ℕ)) → Reads stream records old → Reads (stream ++ bytes) (records ++ further) new
+    (stream : List ℕ) (records : List (List ℕ)) → ReadsRecords stream records old → ReadsRecords (stream ++ bytes) (records ++ further) new
 
 -- What became of bytes that an open session took, by what was received before and after: which frames answer them, and
 -- whether the session stays open.
@@ -129,8 +129,8 @@ pub record UnderWay (old : State) (number : ℕ) (stream done : List ℕ) (outs 
   pub before : List (List ℕ)
   pub part : Received
   pub records : List (List ℕ)
-  pub read : Reads stream before part
-  pub goes_on : Reads (stream ++ done) (before ++ records) received
+  pub read : ReadsRecords stream before part
+  pub goes_on : ReadsRecords (stream ++ done) (before ++ records) received
   pub handled : (all : List ℕ) → StepRecords Scarce number records (with_session old number (meaning.Open all)) outs (with_kept (with_session old number (meaning.Open all)) kept)
 
 -- ---- what a crash leaves on the disk, record by record

@@ -8,7 +8,7 @@ use Rattle.sky_nfs.specs.History.{last_tree}
 use Rattle.sky_nfs.specs.Tree.{Tree}
 use Rattle.sky_outside.specs.CloudMap.{CloudMap}
 use Rattle.sky_outside.specs.declared.storage.Storage.{Ghosts}
-use Rattle.sky_record.specs.Stream.{Received, IsOpen, Reads}
+use Rattle.sky_record.specs.Stream.{Received, IsOpen, ReadsRecords}
 use Rattle.sky_outside.specs.Told.{Given}
 use Rattle.sky_script.specs.Frame as frame
 use Rattle.sky_script.specs.Frame.{InFrame, Begin, Bytes, OutFrame, out_frames, session_count}
@@ -71,7 +71,7 @@ pub record StandsAt (received : Received) (stream : List ℕ) : Type 0 where
   pub bytes : AreBytes stream
   pub goes_on : IsOpen received.progress
   pub records : List (List ℕ)
-  pub read : Reads stream records received
+  pub read : ReadsRecords stream records received
 
 -- a session of the world stands for one of the state
 abbrev pub SessionStandsFor : Session → meaning.Session → Type 0
