@@ -93,7 +93,6 @@ module _ {S : Type 0} (g : Ghosts S) (settings : Fields) where
   pub found_sound : (s : S) (found : Found) (image : List ℕ) (objects : CloudMap) → g.image s ≡ Some image → g.objects s ≡ Some objects → IsFoundOn g volume size s found
       → IsSound volume size image objects
   found_sound s found image objects is held on = record {
-    no_checkpoint = (WhereTold-at (g.objects s) (BeginsAt volume found) objects held on.cloud).no_checkpoint;
     history = found.history;
     stands_for = history_found s found image objects is held on;
     legal = on.legal;

@@ -1,11 +1,11 @@
 -- Laws of what recovery finds of a disk that has the first changes of a history, beside a cloud that has the beginning of it.
 use Rattle.std.specs.Prelude.{drop, max, IsTrue}
 use Rattle.std.specs.List.{AllByRecursion}
-use Rattle.std.proofs.Common.{◌≡◌, ℕ, ◌+◌, ◌-◌, ◌<◌, ◌≤◌, Option, Some, None, Ok, List, map, take, inl, inr, ⊎_elim, refl, sym, ap, subst, ◌∙◌, arith}
+use Rattle.std.proofs.Common.{◌≡◌, ℕ, ◌+◌, ◌-◌, ◌<◌, ◌≤◌, Option, Some, None, Result, Ok, List, map, take, inl, inr, ⊎_elim, refl, sym, ap, subst, ◌∙◌, arith}
 use Rattle.std.proofs.lemmas.List.{drop-map}
 use Rattle.sky_entry.specs.Entry.{entry_bytes}
 use Rattle.sky_journal.specs.Journal.{JournalView}
-use Rattle.sky_journal.specs.Text.{Read, numbered}
+use Rattle.sky_journal.specs.Text.{numbered}
 use Rattle.sky_nfs.specs.History.{History, IsLegalHistory, history_length, last_tree, tree_at_length}
 use Rattle.sky_nfs.specs.declared.call.Change.{Change}
 use Rattle.sky_outside.specs.CloudMap.{CloudMap}
@@ -20,6 +20,7 @@ use Rattle.sky_sound.specs.Entries.{changes_in, entries_above, is_of_change, jou
 use Rattle.sky_sound.specs.Invariant.{AreStorable, CloudHas, Invariant, entries_between}
 use Rattle.sky_sound.specs.Kept.{Kept}
 use Rattle.sky_sound.specs.Recovery.{FindsSame, IsSound, Recovered, history_from, history_of}
+use Rattle.sky_sound.specs.Refusal.{Refusal}
 use Rattle.sky_sound.proofs.Above.{history_is, history_recovered}
 use Rattle.sky_world.specs.Disk.{HoldsPrefix, LeavesPrefix, ReadsTo}
 use Rattle.sky_world.specs.Finding.{FindsNow, FindsPrefix, LeavesFinding}
@@ -76,11 +77,10 @@ module _ (epoch : ℕ) (kept : Kept) (n : ℕ) (image : List ℕ) (objects : Clo
       ap (λ (c : ℕ). changes_in (entries_above c list)) covers ∙ said_above in
       let from : History = history_from (covers_of objects) (cloud_tree v objects) list in
       let same : from ≡ history_between h kept.completed n = λ i. record { before = covers i; tree = begins.has.tree i; changes = changes i } in
-      history_is v kept.journal.size image objects list said ∙ ap (λ (x : History). let r : Read History = Ok x in r) same
+      history_is v kept.journal.size image objects list begins.has.no_checkpoint said ∙ ap (λ (x : History). let r : Result History Refusal = Ok x in r) same
 
   pub sound_at : IsLegalHistory kept.history → IsSound kept.history.tree.volume kept.journal.size image objects
   sound_at legal = record {
-    no_checkpoint = begins.has.no_checkpoint;
     history = history_between kept.history kept.completed n;
     stands_for = history_at;
     legal = between_legal kept.history kept.completed n begins.begins begins.has.valid legal;
@@ -104,7 +104,7 @@ finds_at epoch floor kept image objects holds legal begins =
       least = holds.least;
       most = omega (arith, holds.most, begins.within);
       sound = sound_at epoch kept n image objects holds.reads holds.storable begins legal;
-      found = history_recovered h.tree.volume kept.journal.size image objects k is ∙ ap (λ (x : Recovered). let r : Read Recovered = Ok x in r) same;
+      found = history_recovered h.tree.volume kept.journal.size image objects k is ∙ ap (λ (x : Recovered). let r : Result Recovered Refusal = Ok x in r) same;
       later_epoch = begins.later_epoch;
     }
 
