@@ -6,11 +6,12 @@ use Rattle.sky_record.specs.Stream.{Progress, AtHeader, InFragment, Whole, TooLo
 use Rattle.sky_record.proofs.Reading.{one_reading, closed_reads_on}
 use Rattle.sky_script.specs.Frame as frame
 use Rattle.sky_script.specs.Frame.{OutFrame}
-use Rattle.sky_world.specs.Bytes.{AreBytes, HasBytes, HasByteStreams}
+use Rattle.sky_xdr.specs.Encoding.{AreBytes}
+use Rattle.sky_xdr.proofs.Numbers.{AreBytes-append}
+use Rattle.sky_world.specs.Bytes.{HasBytes, HasByteStreams}
 use Rattle.sky_world.specs.Meaning.{State, Session, Absent, Open, Closed, Supply, Answered, by_meaning, put_off, out_of_memory, session_at, with_kept, with_session, is_open, frame_for, after_reply, Passes, Then, Closes, StepRecord, StepRecords, StepProgress, StepBytes, Step}
 use Rattle.sky_sound.specs.Kept.{Kept}
 use Rattle.sky_world.proofs.SessionLaws.{all-at}
-use Rattle.sky_world.proofs.FrameLaws.{bytes-append}
 use Rattle.sky_world.proofs.FeedLaws.{completed, progress_passed}
 use Rattle.sky_world.proofs.StepLaws.{session_at-same, with_session-twice, where_open, of_open, of_closed, records_then, records_passed, records_pass}
 
@@ -107,7 +108,7 @@ module _ (mem : Supply) (s : State) (n : ℕ) (lt : n < length s.sessions) where
     closed_first : (fits : AreBytes stream) (p_fits : AreBytes p) (q_fits : AreBytes q) (records : List (List ℕ)) (end : Received) (outs : List OutFrame) (h : Kept) → Completes stream p records end
         → StepRecords mem n records begun outs (shut h) → Whole_step outs (shut h)
     closed_first fits p_fits q_fits records end outs h c steps =
-        let k = completed stream (p ++ q) p q c.before records c.part end fits (bytes-append p q p_fits q_fits) refl c.read c.goes_on in
+        let k = completed stream (p ++ q) p q c.before records c.part end fits (AreBytes-append p q p_fits q_fits) refl c.read c.goes_on in
         let all = records_then mem n records k.later begun outs (shut h) [] (shut h) steps (records_passed mem n k.later (shut h) (shut_closed h)) in
         let here = subst (λ (o : List OutFrame). StepRecords mem n (records ++ k.later) begun o (shut h)) (append-nil outs) all in
         (records ++ k.later, k.end, k.completes, (shut h, outs, [], here, progress_passed n k.end.progress (shut h) (shut_closed h), sym (append-nil outs)))

@@ -13,14 +13,15 @@ use Rattle.sky_record.specs.Stream.{Progress, AtHeader, InFragment, Whole, TooLo
 use Rattle.sky_record.proofs.Reading.{has_reading, records_stay, closed_reads_on}
 use Rattle.sky_script.specs.Frame as frame
 use Rattle.sky_script.specs.Frame.{OutFrame, Reply, out_frame, out_frames}
-use Rattle.sky_world.specs.Bytes.{AreBytes}
+use Rattle.sky_xdr.specs.Encoding.{AreBytes}
+use Rattle.sky_xdr.proofs.Numbers.{AreBytes-append}
 use Rattle.sky_world.specs.Disk.{LeavesPrefix, WentOn}
 use Rattle.sky_world.specs.Meaning.{State, Open, Closed, Scarce, Answered, by_meaning, put_off, out_of_memory, session_at, with_kept, with_session, frame_for, is_open, Then, Closes, StepRecord, StepRecords, StepProgress, StepBytes}
 use Rattle.sky_sound.specs.Kept.{Kept}
 use Rattle.sky_world.specs.World.{ServiceView, ServesFor}
 use Rattle.sky_world.specs.Feeding.{Answers, Fails, FeedFails, GoesOn, Feeds, more, answered, too_long, Rests, UnderWay}
 use Rattle.sky_world.proofs.DiskLaws.{went_nowhere}
-use Rattle.sky_world.proofs.FrameLaws.{bytes-append}
+use Rattle.sky_world.proofs.FrameLaws.{each_byte}
 use Rattle.sky_world.proofs.StepLaws.{session_at-same, with_session-twice, where_open, where_closed, records_then, records_passed, records_some, progress_some}
 
 -- ---- one record
@@ -86,7 +87,7 @@ pub record Completed (stream payload : List ℕ) (got : List (List ℕ)) : Type 
 pub completed : (stream payload done rest : List ℕ) (before got : List (List ℕ)) (part received : Received) → AreBytes stream → AreBytes payload → payload ≡ done ++ rest
     → ReadsRecords stream before part → ReadsRecords (stream ++ done) (before ++ got) received → Completed stream payload got
 completed stream payload done rest before got part received fits more_fit e read goes_on =
-    let all = has_reading (stream ++ payload) (bytes-append stream payload fits more_fit) in
+    let all = has_reading (stream ++ payload) (each_byte (stream ++ payload) (AreBytes-append stream payload fits more_fit)) in
     let is : stream ++ payload ≡ (stream ++ done) ++ rest = ap (λ (t : List ℕ). stream ++ t) e ∙ sym (append_assoc stream done rest) in
     let later = records_stay (stream ++ done) rest (before ++ got) all.0 received all.1 goes_on (subst (λ (t : List ℕ). ReadsRecords t all.0 all.1) is all.2) in
     let records_are : all.0 ≡ before ++ (got ++ later.0) = later.1 ∙ append_assoc before got later.0 in

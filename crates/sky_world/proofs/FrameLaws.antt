@@ -6,7 +6,9 @@ use Rattle.sky_record.specs.Stream.{Progress, AtHeader, InFragment, Whole, TooLo
 use Rattle.sky_record.proofs.Reading.{completes_some, completes_one}
 use Rattle.sky_script.specs.Frame as frame
 use Rattle.sky_script.specs.Frame.{InFrame, OutFrame, Counted, session_count}
-use Rattle.sky_world.specs.Bytes.{AreBytes, HasBytes, HasByteStreams, CarriesBytes}
+use Rattle.sky_xdr.specs.Encoding.{AreBytes}
+use Rattle.sky_xdr.proofs.Numbers.{AreBytes-append, AreBytes-zeros}
+use Rattle.sky_world.specs.Bytes.{HasBytes, HasByteStreams, CarriesBytes}
 use Rattle.sky_recover.specs.Opening.{Found}
 use Rattle.sky_world.specs.Laws.{IsForeseen}
 use Rattle.sky_sound.specs.Kept.{Kept}
@@ -57,9 +59,10 @@ progress_keeps n TooLong s outs new does h =
 
 -- ---- each frame has a step
 
-pub bytes-append : (xs ys : List ℕ) → AreBytes xs → AreBytes ys → AreBytes (xs ++ ys)
-bytes-append [] ys p q = q
-bytes-append (x ∷ xs) ys p q = (p.0, bytes-append xs ys p.1 q)
+-- bytes are bytes one by one
+pub each_byte : (xs : List ℕ) → AreBytes xs → AllByRecursion (λ (n : ℕ). n < 256) xs
+each_byte [] h = tt
+each_byte (x ∷ xs) h = (h 0, each_byte xs (λ i. h (suc i)))
 
 abbrev HasStep : (State → List OutFrame → State → Type 0) → State → Type 0
 HasStep Does s = (outs : List OutFrame) × (new : State) × HasByteStreams new × Does s outs new
@@ -67,9 +70,9 @@ HasStep Does s = (outs : List OutFrame) × (new : State) × HasByteStreams new �
 bytes_some : (mem : Supply) (x : Session) (n : ℕ) (payload : List ℕ) (s : State) → HasBytes x → AreBytes payload → HasByteStreams s → HasStep (StepBytes mem x n payload) s
 unfolding Keeps
 bytes_some mem (Open stream) n payload s has more h =
-    let c = completes_some stream payload has more in
+    let c = completes_some stream payload (each_byte stream has) (each_byte payload more) in
     let fed : State = with_session s n (Open (stream ++ payload)) in
-    let fed_has : HasByteStreams fed = all-set HasBytes s.sessions n (Open (stream ++ payload)) h (bytes-append stream payload has more) in
+    let fed_has : HasByteStreams fed = all-set HasBytes s.sessions n (Open (stream ++ payload)) h (AreBytes-append stream payload has more) in
     let first = records_some mem n c.0 fed in
     let second = progress_some n c.1.progress first.1 in
     let mid_has = records_keep mem n c.0 fed first.0 first.1 first.2 fed_has in
@@ -89,7 +92,7 @@ reopens_some known s told =
     (opening_of next ∷ [], next, all-replicate HasBytes session_count Absent tt, as_known told refl refl)
 
 pub step_some : (mem : Supply) (old : State) (f : InFrame) → HasByteStreams old → CarriesBytes f → IsForeseen old.told f → IsStep f → (outs : List OutFrame) × (new : State) × HasByteStreams new × Step mem old f outs new
-step_some mem old (frame.Begin n) h carries seen is = ([], with_session old n (Open []), all-set HasBytes old.sessions n (Open []) h tt, (refl, refl))
+step_some mem old (frame.Begin n) h carries seen is = ([], with_session old n (Open []), all-set HasBytes old.sessions n (Open []) h (AreBytes-zeros 0), (refl, refl))
 step_some mem old (frame.Bytes n payload) h carries seen is = bytes_some mem (session_at old n) n payload old (all-at HasBytes old.sessions n Absent h tt) carries h
 step_some mem old (frame.Close n) h carries seen is =
     let x : Session = ended (session_at old n) in

@@ -8,21 +8,16 @@ use Rattle.sky_outside.specs.declared.storage.Storage.{Ghosts}
 use Rattle.sky_record.specs.Stream.{Received, nothing, IsOpen}
 use Rattle.sky_script.specs.Frame.{Bytes, OutFrame, out_frames}
 use Rattle.sky_world.specs.declared.sessions.Session.TheVariants as slot
-use Rattle.sky_world.specs.Bytes.{AreBytes}
+use Rattle.sky_xdr.specs.Encoding.{AreBytes}
+use Rattle.sky_xdr.proofs.Numbers.{AreBytes-append, AreBytes-take}
 use Rattle.sky_world.specs.Finding.{RecordUnderWay}
 use Rattle.sky_world.specs.Meaning.{State, Open, Closed, Scarce, Step, StepBytes, session_at, with_kept}
 use Rattle.sky_sound.specs.Kept.{Kept}
 use Rattle.sky_world.specs.Feeding.{Feeds, FeedFails, UnderWay, WentWithin, Handled, HandledPart, HandledDown}
 use Rattle.sky_world.specs.World.{ServiceView, ServesFor, SinkGot, StandsAt}
-use Rattle.sky_world.proofs.FrameLaws.{bytes-append}
 use Rattle.sky_world.proofs.FeedLaws.{closed, fed, feeds_one, feeds_open, under_way_begins, under_way_on, under_way_whole, under_way_closes, under_way_ends, under_way_down, frames_given, frames_given_part}
 use Rattle.sky_world.proofs.StorableLaws.{all_take}
 use Rattle.sky_world.proofs.WithinLaws.{as_step, kept_stable, under_way, within_begins, within_holds, within_now, within_went}
-
--- numbers that are bytes at each index are bytes
-pub are_bytes : (xs : List ℕ) → ((i : ℕ) → get_or xs i 0 < 256) → AreBytes xs
-are_bytes [] h = tt
-are_bytes (x ∷ xs) h = (h 0, are_bytes xs (λ i. h (suc i)))
 
 -- ---- what is left of a payload, and a prefix of that
 
@@ -79,7 +74,7 @@ module _ {S : Type 0} (g : Ghosts S) (number : ℕ) (first : ServiceView) (d : S
 
     -- its bytes are bytes
     piece_bytes : (count : ℕ) → AreBytes payload → AreBytes (take taken payload ++ take count (rest_of payload taken))
-    piece_bytes count fits = subst AreBytes (sym (next_part payload taken count)) (all_take (λ (n : ℕ). n < 256) (taken + count) payload fits)
+    piece_bytes count fits = subst AreBytes (sym (next_part payload taken count)) (AreBytes-take (taken + count) payload fits)
 
   pub so_far_on : (count : ℕ) (later : ServiceView) (f : S) (new : Received) (outs : List OutFrame) (stays : Bool) → stays ≡ true → IsOpen new.progress → count ≤ length (rest_of payload taken)
       → Feeds g number service e old (take count (rest_of payload taken)) outs stays later f new → Given mid after (out_frames outs) → SoFar g number first d initial payload (taken + count) later f new (got before after)
@@ -184,7 +179,7 @@ module _ {S : Type 0} (g : Ghosts S) (number : ℕ) (first : ServiceView) (d : S
       let next : State = fed s number (stream ++ payload) h.1 in
       let step = as_step s number stream payload open_is payload h.0 next (under_way_whole g s number stream lt payload h.0 h.1 old u so_far.ready) in
       let stands : StandsAt old (stream ++ payload) = record {
-        bytes = bytes-append stream payload at.bytes fits;
+        bytes = AreBytes-append stream payload at.bytes fits;
         goes_on = so_far.ready;
         records = u.before ++ u.records;
         read = u.goes_on;

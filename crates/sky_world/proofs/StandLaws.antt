@@ -20,6 +20,7 @@ use Rattle.sky_recover.specs.Opening.{Found, IsFoundOn, IsOpenOn, LeavesFound}
 use Rattle.sky_script.specs.Frame.{InFrame, Begin, Bytes, Close, SetMoment, Stat, Restart, RestartWithoutJournal, OutFrame, Counted, out_frame, session_count}
 use Rattle.sky_script.specs.declared.frame.Stats.{Stats}
 use Rattle.sky_sound.specs.Boot.{claimed}
+use Rattle.sky_xdr.proofs.Numbers.{AreBytes-zeros}
 use Rattle.sky_world.specs.Disk.{HoldsPrefix}
 use Rattle.sky_sound.specs.Invariant.{Invariant}
 use Rattle.sky_world.specs.Finding.{FindsBehind, FindsNow, FindsPrefix, HandlesOne, LeavesFinding, LeavesWithin, LeftWithin, RecordUnderWay, floor_of, reached}
@@ -274,7 +275,7 @@ module _ {S : Type 0} (g : Ghosts S) (w : WorldView) (d : S) (told : Option (Lis
   -- a session begins
   pub stepped_begin : (number : ℕ) → number < session_count → Stepped g w d (Begin number) (with_sessions w (set w.sessions number (Open nothing))) d untouched
   stepped_begin number lt = λ s stands.
-      let at : StandsAt nothing [] = record { bytes = tt; goes_on = tt; records = []; read = reads_nothing } in
+      let at : StandsAt nothing [] = record { bytes = AreBytes-zeros 0; goes_on = tt; records = []; read = reads_nothing } in
       let t : State = with_session s number (meaning.Open []) in
       let then = stands_with g d w s number (Open nothing) (meaning.Open []) lt stands at in
       ([], t, (refl, refl), then, Given-none told, leaves_last g d d s (Begin number) (whole s (Begin number) [] t (refl, refl, (refl, refl)) (omega arith)) (nothing_happens g w d s stands), stands_find g (with_sessions w (set w.sessions number (Open nothing))) d t then)

@@ -18,7 +18,7 @@ use Rattle.sky_sound.specs.Boot.{Claims, MayClaim}
 use Rattle.sky_sound.specs.Invariant.{Invariant}
 use Rattle.sky_world.specs.declared.sessions.Session.{Session}
 use Rattle.sky_world.specs.declared.sessions.Session.TheVariants.{Absent, Open, Closed}
-use Rattle.sky_world.specs.Bytes.{AreBytes}
+use Rattle.sky_xdr.specs.Encoding.{AreBytes}
 use Rattle.sky_world.specs.Meaning as meaning
 use Rattle.sky_world.specs.Meaning.{State, session_at, Scarce, Step}
 use Rattle.sky_world.specs.Finding.{FindsBehind, FindsNow, LeavesFinding, LeavesWithin, RecordUnderWay, floor_of}
