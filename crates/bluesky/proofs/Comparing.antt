@@ -6,7 +6,7 @@ use Rattle.sky_script.specs.Frame.{InFrame, OutFrame, End, IsInFrame, in_frame, 
 use Rattle.sky_script.specs.Beginning.{IsRefused, IsCutShort}
 use Rattle.sky_script.proofs.FrameLaws.{frame_same}
 use Rattle.sky_script.proofs.Beginnings.{frame_not_refused, frame_not_cut}
-use Rattle.sky_world.specs.Meaning.{State, Memory, Step, Steps, IsStep}
+use Rattle.sky_world.specs.Meaning.{State, Supply, Step, Steps, IsStep}
 
 -- a reading goes on at these bytes
 pub record GoesOn (rest : List ℕ) : Type 0 where
@@ -34,7 +34,7 @@ compares_on f fs gs r q (first_on less on) = first_on (omega arith) on
 compares_on f fs gs r q (second_on less on) = second_on (omega arith) on
 
 -- a frame that has a step is not the end
-pub is_step : (mem : Memory) (s t : State) (f : InFrame) (outs : List OutFrame) → Step mem s f outs t → IsStep f
+pub is_step : (mem : Supply) (s t : State) (f : InFrame) (outs : List OutFrame) → Step mem s f outs t → IsStep f
 is_step mem s t (frame.Begin session) outs step = tt
 is_step mem s t (frame.Bytes session payload) outs step = tt
 is_step mem s t (frame.Close session) outs step = tt
@@ -45,7 +45,7 @@ is_step mem s t frame.RestartWithoutJournal outs step = tt
 is_step mem s t frame.End outs step = step
 
 -- two readings of one list of bytes
-pub compared : (mem supply : Memory) (from begun : State) (fs gs : List InFrame) (os ps : List OutFrame) (s t : State) (r q : List ℕ)
+pub compared : (mem supply : Supply) (from begun : State) (fs gs : List InFrame) (os ps : List OutFrame) (s t : State) (r q : List ℕ)
     → AllByRecursion IsInFrame fs → AllByRecursion IsInFrame gs → Steps mem from fs os s → Steps supply begun gs ps t → in_frames fs ++ r ≡ in_frames gs ++ q
     → Compares fs gs r q
 compared mem supply from begun [] [] os ps s t r q ok ok' a b e = are_one (record { frames = refl; rest = e })

@@ -2,10 +2,10 @@
 --   step_claims, steps_claim      a restart comes to the next epoch
 --   reaches                       a reading comes as far as a run of the same bytes that read a frame more
 --   worn_out                      so many epochs were claimed
-use Rattle.std.proofs.Common.{◌≡◌, ◌+◌, ◌<◌, ◌≤◌, ◌⊎◌, inl, inr, ⊎_elim, ℕ, Bool, true, Option, Some, List, [], ◌∷◌, ◌++◌, length, refl, sym, ap, subst, ◌∙◌, append_assoc, arith}
+use Rattle.std.proofs.Common.{◌≡◌, ◌+◌, ◌≤◌, ◌⊎◌, inl, inr, ⊎_elim, ℕ, true, Some, List, [], ◌∷◌, ◌++◌, length, refl, sym, ap, subst, ◌∙◌, append_assoc, arith}
 use Rattle.std.specs.List.{AllByRecursion}
 use Rattle.std.proofs.lemmas.Bool.{true≢false}
-use Rattle.std.proofs.lemmas.List.{append_cancel_left, append-nil}
+use Rattle.std.proofs.lemmas.List.{append_cancel_left}
 use Rattle.std.proofs.lemmas.List.Sums.{sum_by-cons}
 use Rattle.sky_base.specs.Limits.{max_number}
 use Rattle.sky_base.specs.declared.status.Status.{Status}
@@ -13,18 +13,19 @@ use Rattle.sky_base.specs.declared.status.Status.TheVariants.{Worn}
 use Rattle.sky_outside.specs.CloudMap.{CloudMap}
 use Rattle.sky_outside.specs.declared.storage.Storage.{Ghosts}
 use Rattle.sky_outside.proofs.ToldLaws.{WhereTold-at}
-use Rattle.sky_recover.specs.Opening.{BeginsAt, Found}
+use Rattle.sky_recover.specs.Opening.{BeginsAt}
 use Rattle.sky_script.specs.Frame as frame
 use Rattle.sky_script.specs.Frame.{InFrame, OutFrame, IsInFrame, in_frame, in_frames, magic}
 use Rattle.sky_script.proofs.FrameLaws.{frame_same}
 use Rattle.sky_settings.specs.declared.settings.Fields.{Fields}
 use Rattle.sky_sound.specs.Cloud.{epoch_after}
-use Rattle.sky_world.specs.Meaning.{State, Memory as Supply, Scarce, Restarts, as_known, untold, covered_found, kept_found, start, Step, Steps, IsStep}
+use Rattle.sky_sound.specs.Kept.{Kept}
+use Rattle.sky_world.specs.Meaning.{State, Supply, Scarce, Restarts, as_known, untold, given_up, reopened, start, Step, Steps, IsStep}
 use Rattle.sky_world.specs.Opening.{IsRefusedAs}
 use Rattle.sky_world.specs.World.{IsRestart, restarts_by, tells}
 use Rattle.sky_world.proofs.FindingLaws.{both_told_at}
 use Rattle.sky_world.proofs.SiteLaws.{step_same, step_tells}
-use Rattle.bluesky.specs.Run.{AreFew, Course, EndsInRestart, IsCourse, IsReading, Ran, RanOn, RanUnopened, SinkUse, restarts_in}
+use Rattle.bluesky.specs.Run.{AreFew, Course, IsCourse, IsReading, Ran, RanOn, RanUnopened, SinkUse, restarts_in}
 use Rattle.bluesky.proofs.Comparing.{GoesOn, is_step}
 use Rattle.bluesky.proofs.Going.{restarts_then}
 use Rattle.bluesky.proofs.OneReading.{StopsAt, StopsIn, behind, in_magic, no_magic, left_is, magic_whole, not_other, stop_not_on, stops_in, told}
@@ -32,9 +33,9 @@ use Rattle.bluesky.proofs.Sites.{tells_both}
 
 -- ---- epochs
 
-restart_claims : (s : State) (n : ℕ) (known : Found) (outs : List OutFrame) (t : State) → s.told ≡ true → known.epoch ≡ s.epoch + 1 → Restarts s known outs t → t.epoch ≡ s.epoch + 1
-restart_claims s n known outs t is next (as_known told reopens) = ap (λ (x : State). x.epoch) reopens.1 ∙ next
-restart_claims s n known outs t is next (untold found silent may reopens) = absurd (true≢false (sym is ∙ silent))
+restart_claims : (s : State) (known : Kept) (outs : List OutFrame) (t : State) → s.told ≡ true → Restarts s known outs t → t.epoch ≡ s.epoch + 1
+restart_claims s known outs t is (as_known told reopens said) = ap (λ (x : State). x.epoch) reopens
+restart_claims s known outs t is (untold found silent may reopens said) = absurd (true≢false (sym is ∙ silent))
 
 -- on a site that tells what it has, a step comes to the epochs that its frame claims
 step_claims : (mem : Supply) (s t : State) (f : InFrame) (outs : List OutFrame) → s.told ≡ true → Step mem s f outs t → t.epoch ≡ s.epoch + restarts_by f
@@ -43,8 +44,8 @@ step_claims mem s t (frame.Bytes n payload) outs is p = omega (arith, (step_same
 step_claims mem s t (frame.Close n) outs is p = omega (arith, (step_same mem s t (frame.Close n) outs (λ r. r) p).1)
 step_claims mem s t (frame.SetMoment at) outs is p = omega (arith, (step_same mem s t (frame.SetMoment at) outs (λ r. r) p).1)
 step_claims mem s t frame.Stat outs is p = omega (arith, (step_same mem s t frame.Stat outs (λ r. r) p).1)
-step_claims mem s t frame.Restart outs is p = restart_claims s 0 (kept_found s) outs t is refl p
-step_claims mem s t frame.RestartWithoutJournal outs is p = restart_claims s 0 (covered_found s) outs t is refl p
+step_claims mem s t frame.Restart outs is p = restart_claims s (reopened s.kept) outs t is p
+step_claims mem s t frame.RestartWithoutJournal outs is p = restart_claims s (given_up s.kept) outs t is p
 step_claims mem s t frame.End outs is p = absurd p
 
 steps_claim : (mem : Supply) (s t : State) (fs : List InFrame) (outs : List OutFrame) → s.told ≡ true → Steps mem s fs outs t → (t.epoch ≡ s.epoch + restarts_in fs) × (t.told ≡ true)

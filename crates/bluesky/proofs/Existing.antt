@@ -21,7 +21,6 @@ use Rattle.sky_world.specs.Meaning.{State, Ample, start, Absent, Step, Steps, Is
 use Rattle.sky_world.specs.Bytes.{HasBytes, HasByteStreams, CarriesBytes}
 use Rattle.sky_world.proofs.FrameLaws.{step_some}
 use Rattle.sky_world.proofs.SiteLaws.{step_tells}
-use Rattle.sky_world.proofs.PayloadLaws.{are_bytes}
 use Rattle.sky_world.proofs.SessionLaws.{all-replicate}
 use Rattle.bluesky.specs.Run.{frame_limit, Course, IsCourse, no_course, recording, Took, other_magic, no_frame, within_magic, within_frame, IsReading, HasOneReading}
 use Rattle.bluesky.proofs.OneReading.{one_reading, any_reading, told_reading}
@@ -41,7 +40,7 @@ start_has found = all-replicate HasBytes 256 Absent tt
 -- what a frame carries is bytes, where its payload is
 carries : (f : InFrame) → AreBytes (parts_of f).payload → CarriesBytes f
 carries (Begin session) fits = tt
-carries (Bytes session payload) fits = are_bytes payload fits
+carries (Bytes session payload) fits = fits
 carries (Close session) fits = tt
 carries (SetMoment at) fits = tt
 carries Stat fits = tt

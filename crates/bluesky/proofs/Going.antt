@@ -166,7 +166,7 @@ going_at_first g settings told found world s left given stands =
       begins = refl;
       stands = stands;
       handled = nothing_handled (start told found);
-      told_then = stands.recoverable.told;
+      told_then = stands.told;
       told_now = refl;
       leaves = λ s' opened. opened_leaves g settings s' s found (λ read held. LeftSoFar settings read held course) opened (λ read held image objects p. inl p);
       claims = claims_none (g.objects s);
@@ -180,7 +180,7 @@ module _ {S : Type 0} (g : Ghosts S) (settings : Fields) (told : Bool) (found : 
   -- what the site told before the opening it tells now
   pub tells_now : (s : S) → Opened g settings s s0 found → (read : List ℕ) (held : CloudMap) → g.image s ≡ Some read → g.objects s ≡ Some held → tells g s1 ≡ true
   tells_now s opened read held is held_is =
-      sym going.stands.recoverable.told ∙ going.told_now ∙ going.told_then ∙ opened.tells ∙ tells_both g s read held is held_is
+      sym going.stands.told ∙ going.told_now ∙ going.told_then ∙ opened.tells ∙ tells_both g s read held is held_is
 
   -- of what a crash leaves from now on, where it told before the opening
   pub at_now : (s : S) → Opened g settings s s0 found → (read : List ℕ) (held : CloudMap) → g.image s ≡ Some read → g.objects s ≡ Some held → (P : Type 0) → WhereBothTold g s1 (λ image objects. P) → P

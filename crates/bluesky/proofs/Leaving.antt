@@ -1,7 +1,7 @@
 -- What a crash leaves of a run.
 --   opened_run                    behind the opening, before any frame
 --   leaves_within, leaves_still   within a step, and behind the last one
-use Rattle.std.proofs.Common.{◌≡◌, ◌+◌, ◌⊎◌, inl, inr, ⊎_elim, ℕ, Bool, Option, List, [], ◌∷◌, ◌++◌, sym, subst, arith}
+use Rattle.std.proofs.Common.{◌≡◌, ◌+◌, ◌⊎◌, inl, inr, ⊎_elim, ℕ, Bool, Option, List, [], ◌∷◌, ◌++◌, subst, arith}
 use Rattle.sky_outside.specs.CloudMap.{CloudMap}
 use Rattle.sky_outside.specs.Moments.{LeavesOnly, MayLeaveNow, OfPair}
 use Rattle.sky_outside.specs.declared.storage.Storage.{Ghosts}
@@ -12,7 +12,8 @@ use Rattle.sky_sound.specs.Recovery.{FindsSame}
 use Rattle.sky_world.specs.Finding.{FindsBehind, FindsPrefix, LeavesFinding}
 use Rattle.sky_settings.specs.declared.settings.Fields.{Fields}
 use Rattle.sky_sound.specs.Boot.{Claims}
-use Rattle.sky_world.specs.Meaning.{Kept, start}
+use Rattle.sky_world.specs.Meaning.{start}
+use Rattle.sky_sound.specs.Kept.{Kept}
 use Rattle.sky_world.specs.World.{WorldView, restarts_by}
 use Rattle.sky_world.proofs.FindingLaws.{both_told_at, both_told_from, leaves_as, stands_find}
 use Rattle.bluesky.specs.Run.{Course, End, FindsAtEnd, LeavesOfRun, LeftBetween, LeftInLast, end_at, no_course, restarts_in}

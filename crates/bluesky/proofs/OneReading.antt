@@ -13,7 +13,7 @@ use Rattle.sky_script.specs.Beginning.{IsRefused, IsCutShort}
 use Rattle.sky_script.proofs.FrameLaws.{prefixes_same}
 use Rattle.sky_script.proofs.Beginnings.{frame_not_refused, frame_not_cut, refused_not_cut, refused_same}
 use Rattle.sky_world.specs.Laws.{IsForeseen, NoneOutOfMemory}
-use Rattle.sky_world.specs.Meaning.{State, Memory as Supply, Ample, Scarce, start, Steps}
+use Rattle.sky_world.specs.Meaning.{State, Supply, Ample, Scarce, start, Steps}
 use Rattle.sky_settings.specs.declared.settings.Fields.{Fields}
 use Rattle.sky_world.proofs.FrameLaws.{frames_one}
 use Rattle.sky_world.proofs.HistoryLaws.{steps_told}

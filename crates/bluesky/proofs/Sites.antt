@@ -93,7 +93,6 @@ module _ {S : Type 0} (g : Ghosts S) (settings : Fields) where
   pub found_sound : (s : S) (found : Found) (image : List ℕ) (objects : CloudMap) → g.image s ≡ Some image → g.objects s ≡ Some objects → IsFoundOn g volume size s found
       → IsSound volume size image objects
   found_sound s found image objects is held on = record {
-    no_checkpoint = (WhereTold-at (g.objects s) (BeginsAt volume found) objects held on.cloud).no_checkpoint;
     history = found.history;
     stands_for = history_found s found image objects is held on;
     legal = on.legal;
@@ -137,8 +136,8 @@ module _ {S : Type 0} (g : Ghosts S) (settings : Fields) where
         n = history_length h;
         least = omega arith;
         most = omega arith;
-        sound = subst (λ (v : ℕ). IsSound v found.journal.size image objects) (sym on.journal_volume) (subst (λ (z : ℕ). IsSound volume z image objects) (sym on.journal_size) same.sound);
-        found = subst (λ (v : ℕ). recovered v found.journal.size image objects ≡ Ok (record { length = history_length h; tree = tree_at_length h (history_length h) })) (sym on.journal_volume)
+        sound = subst (λ (v : ℕ). IsSound v found.journal.size image objects) (sym on.volume) (subst (λ (z : ℕ). IsSound volume z image objects) (sym on.journal_size) same.sound);
+        found = subst (λ (v : ℕ). recovered v found.journal.size image objects ≡ Ok (record { length = history_length h; tree = tree_at_length h (history_length h) })) (sym on.volume)
             (subst (λ (z : ℕ). recovered volume z image objects ≡ Ok (record { length = history_length h; tree = tree_at_length h (history_length h) })) (sym on.journal_size) now);
         later_epoch = later;
       }

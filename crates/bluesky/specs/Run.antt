@@ -17,7 +17,8 @@ use Rattle.sky_sound.specs.Boot.{Claims, MayClaim}
 use Rattle.sky_sound.specs.Recovery.{FindsSame}
 use Rattle.sky_world.specs.Finding.{FindsPrefix, LeftWithin, RecordUnderWay, floor_of}
 use Rattle.sky_world.specs.Laws.{NoneOutOfMemory}
-use Rattle.sky_world.specs.Meaning.{State, Kept, Absent, Memory as Supply, Ample, Scarce, start, opening, session_at, Step, Steps}
+use Rattle.sky_world.specs.Meaning.{State, Absent, Supply, Ample, Scarce, start, opening, session_at, Step, Steps}
+use Rattle.sky_sound.specs.Kept.{Kept}
 use Rattle.sky_world.specs.Opening.{IsRefusedAs, LeavesCloudAs, LeavesRefusedAs, MayRefuse}
 use Rattle.sky_world.specs.World.{IsRestart, Stands, WorldView, restarts_by, tells}
 

@@ -2,7 +2,7 @@
 
 ghost use Rattle.std.specs.Prelude.{◌≡◌, ◌<◌, ◌↔◌, ◌⊎◌, ◌+◌, ◌≤◌, map, string_bytes, length, Some, None, ℕ, List};
 ghost use Rattle.sky_base.specs.declared.status.Status.{Status};
-ghost use Rattle.sky_world.specs.Meaning.{Memory};
+ghost use Rattle.sky_world.specs.Meaning.{Supply};
 ghost use Rattle.sky_recover.specs.Opening.{WhereBothTold};
 ghost use Rattle.sky_sound.specs.Recovery.{IsSound};
 ghost use Rattle.bluesky.specs.Words.{IsReplay};
@@ -37,7 +37,7 @@ pub fn run_infallible(
     // The status is the one that the recording asks for, unless memory runs out, or so many epochs were claimed that none is left.
     ensures complete { IsReplayed result → WhereBothTold ⟦<SureSite as Storage>⟧ site.old (λ image objects.
         IsSound default_fields.volume default_fields.journal_area image objects
-        → (memory : Memory) (course : Course) (status : Status) (rest : List ℕ) → IsReading memory source.old course status rest
+        → (memory : Supply) (course : Course) (status : Status) (rest : List ℕ) → IsReading memory source.old course status rest
         → (result ≡ status) ⊎ (result ≡ Status.Memory)
         ⊎ (result ≡ Status.Worn) × (max_number ≤ epoch_after objects + restarts_in course.frames)) }
 {

@@ -1,7 +1,7 @@
 //! The run of a recorded session, from its words to its status.
 
-ghost use Rattle.std.specs.Prelude.{◌≡◌, ◌<◌, ◌↔◌, ◌⊎◌, ℕ, Bool, false, true, List, [], map, string_bytes, length, Option, IfOk, IfErr, IsErr, IsErrOf, OnErr, OnOk};
-ghost use Rattle.sky_outside.specs.Count.{Counts};
+ghost use Rattle.std.specs.Prelude.{◌≡◌, ◌<◌, ◌≤◌, ◌↔◌, ◌⊎◌, ℕ, Bool, false, true, List, [], map, string_bytes, length, Option, IfOk, IfErr, IsErr, IsErrOf, OnErr, OnOk};
+ghost use Rattle.sky_outside.specs.Count.{Counts, Rose};
 ghost use Rattle.sky_outside.specs.Moments.{NothingPending};
 ghost use Rattle.sky_outside.specs.Told.{WhereTold, Had, Given, GivenPart};
 ghost use Rattle.sky_recover.specs.Opening.{Found, IsFoundOn, LeavesFound, WhereBothTold};
@@ -224,7 +224,10 @@ pub fn run<S: Source, K: Sink, P: Site>(
     // A device is blamed only where it failed in this run.
     ensures source_cause { Counts (S.faults source.old) (S.faults source.new) (result ≡ Status.SourceFault) }
     ensures journal_cause { Counts (P.disk_faults site.old) (P.disk_faults site.new) (result ≡ Status.JournalFault) }
-    ensures cloud_cause { Counts (P.cloud_faults site.old) (P.cloud_faults site.new) (result ≡ Status.CloudFault) }
+    // The cloud's count never falls, and rose where the cloud is blamed; today it stays elsewhere.
+    ensures cloud_grows { P.cloud_faults site.old ≤ P.cloud_faults site.new }
+    ensures cloud_cause { result ≡ Status.CloudFault → Rose (P.cloud_faults site.old) (P.cloud_faults site.new) }
+    ensures cloud_quiet { (result ≡ Status.CloudFault → ⊥) → P.cloud_faults site.new ≡ P.cloud_faults site.old }
     ensures sink_cause { SinkCounts (K.faults sink.old) (K.faults sink.new) result }
 
     ensures size { P.bytes_of site.new ≡ P.bytes_of site.old }

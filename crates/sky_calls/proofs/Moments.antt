@@ -6,7 +6,7 @@ use Rattle.sky_outside.specs.Told.{BothTold}
 use Rattle.sky_outside.specs.declared.storage.Storage.{Ghosts}
 use Rattle.sky_outside.proofs.ToldLaws.{WhereTold-from}
 use Rattle.sky_outside.proofs.MomentLaws.{LeavesOnly-disk_start, only_read}
-use Rattle.sky_journal.specs.Journal.{JournalView, IsJournal, StandsFor, StandsOn, Reads, SameButSpare}
+use Rattle.sky_journal.specs.Journal.{JournalView, IsJournal, StandsFor, StandsOn, ReadsEntries, SameButSpare}
 use Rattle.sky_journal.proofs.Disks.{told_then}
 use Rattle.sky_journal.proofs.Idle.{CommitMoments}
 use Rattle.sky_journal.proofs.Journals.{StandsFor-but}
@@ -20,9 +20,9 @@ module _ {S : Type 0} (g : Ghosts S) (s t : S) (j : JournalView) (entry : List �
       let there : CommitMoments g s t (record j { pending = j.pending ++ entry ∷ []; spare = k.spare }) = subst (λ (v : JournalView). CommitMoments g s t v) is moments in
       told_then
       (λ image. (older newer : List (List ℕ)) → StandsFor (record j { pending = j.pending ++ entry ∷ []; spare = k.spare }) image older newer
-      → LeavesOnly g s t (BesideObjects g s (λ left. Reads j older newer left ⊎ Reads j older (newer ++ (j.pending ++ entry ∷ [])) left)))
+      → LeavesOnly g s t (BesideObjects g s (λ left. ReadsEntries j older newer left ⊎ ReadsEntries j older (newer ++ (j.pending ++ entry ∷ [])) left)))
       (λ image. (older newer : List (List ℕ)) → StandsFor j image older newer
-      → LeavesOnly g s t (BesideObjects g s (λ left. Reads j older newer left ⊎ Reads j older (newer ++ (j.pending ++ entry ∷ [])) left)))
+      → LeavesOnly g s t (BesideObjects g s (λ left. ReadsEntries j older newer left ⊎ ReadsEntries j older (newer ++ (j.pending ++ entry ∷ [])) left)))
       (g.image s) there
       (λ image told leaves older newer stands. leaves older newer (StandsFor-but j (j.pending ++ entry ∷ []) k.spare j.down image older newer stands))
 
@@ -30,9 +30,9 @@ module _ {S : Type 0} (g : Ghosts S) (s t : S) (j : JournalView) (entry : List �
 pub waiting_moments : {S : Type 0} (g : Ghosts S) (s : S) (j : JournalView) (entry : List ℕ) → IsJournal j → StandsOn g j s → LeavesOldOrAll g s s j entry
 waiting_moments g s j entry is stands =
     WhereTold-from (g.image s) (λ image. (older newer : List (List ℕ)) → StandsFor j image older newer
-    → LeavesOnly g s s (BesideObjects g s (λ left. Reads j older newer left ⊎ Reads j older (newer ++ (j.pending ++ entry ∷ [])) left)))
-    (λ image told older newer here. LeavesOnly-disk_start g s (λ left. Reads j older newer left ⊎ Reads j older (newer ++ (j.pending ++ entry ∷ [])) left)
-    (λ left leaves. inl (subst (λ (l : List ℕ). Reads j older newer l) (sym (only_read g s image told stands.durable left leaves)) (reads j image older newer is here))))
+    → LeavesOnly g s s (BesideObjects g s (λ left. ReadsEntries j older newer left ⊎ ReadsEntries j older (newer ++ (j.pending ++ entry ∷ [])) left)))
+    (λ image told older newer here. LeavesOnly-disk_start g s (λ left. ReadsEntries j older newer left ⊎ ReadsEntries j older (newer ++ (j.pending ++ entry ∷ [])) left)
+    (λ left leaves. inl (subst (λ (l : List ℕ). ReadsEntries j older newer l) (sym (only_read g s image told stands.durable left leaves)) (reads j image older newer is here))))
 
 -- by a journal that is the same but for its memory
 pub StandsOn-spare : {S : Type 0} (g : Ghosts S) (s : S) (j k : JournalView) → SameButSpare j k → StandsOn g j s → StandsOn g k s
@@ -50,9 +50,9 @@ moments_spare g s t j k entry same moments =
     let there : LeavesOldOrAll g s t (record j { spare = k.spare }) entry = subst (λ (v : JournalView). LeavesOldOrAll g s t v entry) same moments in
     told_then
     (λ image. (older newer : List (List ℕ)) → StandsFor (record j { spare = k.spare }) image older newer
-    → LeavesOnly g s t (BesideObjects g s (λ left. Reads j older newer left ⊎ Reads j older (newer ++ (j.pending ++ entry ∷ [])) left)))
+    → LeavesOnly g s t (BesideObjects g s (λ left. ReadsEntries j older newer left ⊎ ReadsEntries j older (newer ++ (j.pending ++ entry ∷ [])) left)))
     (λ image. (older newer : List (List ℕ)) → StandsFor j image older newer
-    → LeavesOnly g s t (BesideObjects g s (λ left. Reads j older newer left ⊎ Reads j older (newer ++ (j.pending ++ entry ∷ [])) left)))
+    → LeavesOnly g s t (BesideObjects g s (λ left. ReadsEntries j older newer left ⊎ ReadsEntries j older (newer ++ (j.pending ++ entry ∷ [])) left)))
     (g.image s) there
     (λ image told leaves older newer stands. leaves older newer (StandsFor-but j j.pending k.spare j.down image older newer stands))
 
@@ -61,9 +61,9 @@ lasts_spare g s t j k entry same lasts =
     let there : Lasts g s t (record j { spare = k.spare }) entry = subst (λ (v : JournalView). Lasts g s t v entry) same lasts in
     told_then
     (λ image. (older newer : List (List ℕ)) → StandsFor (record j { spare = k.spare }) image older newer
-    → (left : List ℕ) → g.may_leave t left → Reads j older (newer ++ (j.pending ++ entry ∷ [])) left)
+    → (left : List ℕ) → g.may_leave t left → ReadsEntries j older (newer ++ (j.pending ++ entry ∷ [])) left)
     (λ image. (older newer : List (List ℕ)) → StandsFor j image older newer
-    → (left : List ℕ) → g.may_leave t left → Reads j older (newer ++ (j.pending ++ entry ∷ [])) left)
+    → (left : List ℕ) → g.may_leave t left → ReadsEntries j older (newer ++ (j.pending ++ entry ∷ [])) left)
     (g.image s) there
     (λ image told lasts older newer stands. lasts older newer (StandsFor-but j j.pending k.spare j.down image older newer stands))
 

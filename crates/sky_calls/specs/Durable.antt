@@ -1,11 +1,10 @@
 -- A file tree whose changes go through a journal, and what becomes of it by a change.
-use Rattle.std.specs.Prelude.{◌⊎◌, ℕ, Bool, true, false, cond, List, [], ◌∷◌, ◌++◌}
+use Rattle.std.specs.Prelude.{ℕ, Bool, true, false, cond, List, [], ◌∷◌, ◌++◌}
 use Rattle.sky_nfs.specs.Tree.{Tree}
 use Rattle.sky_nfs.specs.declared.answer.Answer.{Answer}
-use Rattle.sky_outside.specs.Moments.{LeavesOnly, BesideObjects}
-use Rattle.sky_outside.specs.Told.{WhereTold, BothTold}
 use Rattle.sky_outside.specs.declared.storage.Storage.{Ghosts}
-use Rattle.sky_journal.specs.Journal.{JournalView, StandsFor, Reads, after_commit}
+use Rattle.sky_journal.specs.Journal.{JournalView, after_commit}
+use Rattle.sky_journal.specs.Lasting.{LeavesMore, LeavesOldOrMore}
 use Rattle.sky_calls.specs.declared.outcome.Outcome.{Outcome}
 use Rattle.sky_calls.specs.declared.outcome.Outcome.TheVariants.{Done, Jukebox, Down, Memory}
 
@@ -47,26 +46,10 @@ journal_after stable j entry = cond stable (after_commit (with_entry j entry)) (
 abbrev pub entries_kept : Bool → JournalView → List ℕ → List (List ℕ)
 entries_kept stable j entry = cond stable (j.pending ++ entry ∷ []) []
 
--- a crash at any moment from s to t leaves the entries from before, or those and these
-abbrev pub LeavesOldOrMore : {S : Type 0} → Ghosts S → S → S → JournalView → List (List ℕ) → Type 0
-LeavesOldOrMore g s t j more =
-    WhereTold (g.image s) (λ image. (older newer : List (List ℕ)) → StandsFor j image older newer
-    → LeavesOnly g s t (BesideObjects g s (λ left. Reads j older newer left ⊎ Reads j older (newer ++ more) left)))
-
--- from now on each crash leaves the entries from before, and these
-abbrev pub LeavesMore : {S : Type 0} → Ghosts S → S → S → JournalView → List (List ℕ) → Type 0
-LeavesMore g s t j more =
-    WhereTold (g.image s) (λ image. (older newer : List (List ℕ)) → StandsFor j image older newer
-    → (left : List ℕ) → g.may_leave t left → Reads j older (newer ++ more) left)
-
--- the journal k over what the disk t tells stands for the entries for which j stood over what s told, and these
-abbrev pub HoldsMore : {S : Type 0} → Ghosts S → S → S → JournalView → JournalView → List (List ℕ) → Type 0
-HoldsMore g s t j k more =
-    BothTold (λ old new. (older newer : List (List ℕ)) → StandsFor j old older newer → StandsFor k new older (newer ++ more)) (g.image s) (g.image t)
-
--- the same for the pending ones with one more
+-- a crash at any moment from s to t leaves the entries from before, or those and the pending ones with one more
 abbrev pub LeavesOldOrAll : {S : Type 0} → Ghosts S → S → S → JournalView → List ℕ → Type 0
 LeavesOldOrAll g s t j entry = LeavesOldOrMore g s t j (j.pending ++ entry ∷ [])
 
+-- from now on each crash leaves those
 abbrev pub Lasts : {S : Type 0} → Ghosts S → S → S → JournalView → List ℕ → Type 0
 Lasts g s t j entry = LeavesMore g s t j (j.pending ++ entry ∷ [])

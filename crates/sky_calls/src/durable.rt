@@ -9,8 +9,9 @@ ghost use Rattle.sky_entry.specs.Entry.{entry_bytes, IsEntry};
 ghost use Rattle.sky_outside.specs.Count.{Counts};
 ghost use Rattle.sky_outside.specs.Moments.{SameCloud, LeavesOnly, BesideObjects};
 ghost use Rattle.sky_outside.specs.Told.{WhereTold, BothTold};
-ghost use Rattle.sky_journal.specs.Journal.{IsJournal, StandsFor, StandsOn, Reads, SameButSpare, IsFramed, after_commit, without_newer, wiped, room_of, wanted_of};
-ghost use Rattle.sky_calls.specs.Durable.{is_down, IfDone, IfPutOff, IfJukebox, HoldsMore, entries_kept, LeavesMore, LeavesOldOrAll, LeavesOldOrMore, Lasts, journal_after};
+ghost use Rattle.sky_journal.specs.Journal.{IsJournal, StandsFor, StandsOn, ReadsEntries, SameButSpare, IsFramed, after_commit, without_newer, wiped, room_of, wanted_of};
+ghost use Rattle.sky_calls.specs.Durable.{is_down, IfDone, IfPutOff, IfJukebox, entries_kept, LeavesOldOrAll, Lasts, journal_after};
+ghost use Rattle.sky_journal.specs.Lasting.{HoldsMore, LeavesMore, LeavesOldOrMore};
 ghost use Rattle.sky_calls.specs.Stable.{is_stable_call};
 ghost use Rattle.sky_tree.specs.Memory.{takes_memory};
 ghost use Rattle.sky_calls.specs.declared.outcome.Outcome.TheVariants.{Down, Memory};
@@ -264,7 +265,7 @@ impl DurableTree {
 
         ensures any_moment { WhereTold (D.image disk.old) (λ image. (older newer : List (List ℕ)) → StandsFor self.old.journal image older newer
             → LeavesOnly D.Storage disk.old disk.new (BesideObjects D.Storage disk.old
-            (λ left. Reads self.old.journal older newer left ⊎ Reads (without_newer self.old.journal) [] older left ⊎ Reads (wiped self.old.journal) [] [] left))) }
+            (λ left. ReadsEntries self.old.journal older newer left ⊎ ReadsEntries (without_newer self.old.journal) [] older left ⊎ ReadsEntries (wiped self.old.journal) [] [] left))) }
 
         ensures quiet { self.old.journal.newer ≡ None → disk.new ≡ disk.old }
         ensures down { self.new.journal.down ≡ is_err result }

@@ -6,7 +6,7 @@ use Rattle.sky_outside.specs.Told.{WhereTold, BothTold}
 use Rattle.sky_outside.specs.declared.storage.Storage.{Ghosts}
 use Rattle.sky_outside.proofs.MomentLaws.{LeavesOnly-disk_start, only_read}
 use Rattle.sky_outside.proofs.ToldLaws.{WhereTold-from}
-use Rattle.sky_journal.specs.Journal.{JournalView, IsJournal, StandsFor, StandsOn, Reads}
+use Rattle.sky_journal.specs.Journal.{JournalView, IsJournal, StandsFor, StandsOn, ReadsEntries}
 use Rattle.sky_journal.proofs.Disks.{told_then, told_from, both_from, leaves_weaker}
 use Rattle.sky_journal.proofs.Reading.{reads}
 
@@ -49,9 +49,9 @@ module _ {S : Type 0} (g : Ghosts S) (s t : S) (j : JournalView) where
 -- A call that does nothing: what a crash leaves reads as the journal's entries.
 pub still_from : {S : Type 0} (g : Ghosts S) (s : S) (j : JournalView) (Q : List (List ℕ) → List (List ℕ) → List ℕ → Type 0) → IsJournal j → NothingPending g s
     → WhereTold (g.image s) (λ image. (older newer : List (List ℕ)) → StandsFor j image older newer
-    → LeavesOnly g s s (BesideObjects g s (λ left. Reads j older newer left ⊎ Q older newer left)))
+    → LeavesOnly g s s (BesideObjects g s (λ left. ReadsEntries j older newer left ⊎ Q older newer left)))
 still_from g s j Q is nothing =
     WhereTold-from (g.image s) (λ image. (older newer : List (List ℕ)) → StandsFor j image older newer
-    → LeavesOnly g s s (BesideObjects g s (λ left. Reads j older newer left ⊎ Q older newer left)))
-    (λ image told older newer stands. LeavesOnly-disk_start g s (λ left. Reads j older newer left ⊎ Q older newer left)
+    → LeavesOnly g s s (BesideObjects g s (λ left. ReadsEntries j older newer left ⊎ Q older newer left)))
+    (λ image told older newer stands. LeavesOnly-disk_start g s (λ left. ReadsEntries j older newer left ⊎ Q older newer left)
     (λ left may. inl (reads j left older newer is (subst (λ (l : List ℕ). StandsFor j l older newer) (sym (only_read g s image told nothing left may)) stands))))

@@ -6,7 +6,7 @@ use Rattle.sky_outside.specs.Image.{Torn, written}
 use Rattle.sky_outside.specs.Moments.{LeavesOnly, BesideObjects, NothingPending}
 use Rattle.sky_outside.specs.Told.{WhereTold, BothTold}
 use Rattle.sky_outside.specs.declared.storage.Storage.{Ghosts}
-use Rattle.sky_journal.specs.Journal.{JournalView, IsJournal, StandsFor, StandsOn, Reads, without_older, without_newer}
+use Rattle.sky_journal.specs.Journal.{JournalView, IsJournal, StandsFor, StandsOn, ReadsEntries, without_older, without_newer}
 use Rattle.sky_journal.specs.contracts.journal.Journal.{the_view}
 use Rattle.sky_journal.specs.declared.journal.Journal.TheInside.{Inside}
 use Rattle.sky_journal.specs.declared.open_area.OpenArea.{OpenArea}
@@ -38,7 +38,7 @@ newer_gone_view j v batch is up empty =
 module _ (j : JournalView) (a : OpenArea) (is : IsJournal j) (e : j.older ≡ Some a) where
   -- what is left while it is closed reads as the entries of both, or of the newer
   older_leaves : (image left : List ℕ) (older newer : List (List ℕ)) → StandsFor j image older newer → Torn a.start 1 image left
-      → Reads j older newer left ⊎ Reads (without_older j) [] newer left
+      → ReadsEntries j older newer left ⊎ ReadsEntries (without_older j) [] newer left
   older_leaves image left older newer stands torn =
       ⊎_elim (λ before. inl (reads j left older newer is before)) (λ after. inr (reads (without_older j) left [] newer (IsJournal-without_older j is) after))
       (older_torn j a image left older newer is stands e torn)
@@ -52,9 +52,9 @@ module _ {S : Type 0} (g : Ghosts S) (s t : S) (j : JournalView) (a : OpenArea) 
   -- at each moment
   pub older_moments : WhereTold (g.image s) (λ image. LeavesOnly g s t (BesideObjects g s (Torn a.start 1 image)))
       → WhereTold (g.image s) (λ image. (older newer : List (List ℕ)) → StandsFor j image older newer
-      → LeavesOnly g s t (BesideObjects g s (λ left. Reads j older newer left ⊎ Reads (without_older j) [] newer left)))
+      → LeavesOnly g s t (BesideObjects g s (λ left. ReadsEntries j older newer left ⊎ ReadsEntries (without_older j) [] newer left)))
   older_moments leaves =
-      moments_from g s t j (λ image left. Torn a.start 1 image left) (λ older newer left. Reads j older newer left ⊎ Reads (without_older j) [] newer left) leaves
+      moments_from g s t j (λ image left. Torn a.start 1 image left) (λ older newer left. ReadsEntries j older newer left ⊎ ReadsEntries (without_older j) [] newer left) leaves
       (older_leaves j a is e)
 
   -- at its end
@@ -74,7 +74,7 @@ module _ {S : Type 0} (g : Ghosts S) (s t : S) (j : JournalView) (a : OpenArea) 
 module _ (j : JournalView) (a : OpenArea) (is : IsJournal j) (e : j.newer ≡ Some a) where
   -- what is left while it is closed reads as the entries of both, or of the older
   newer_leaves : (image left : List ℕ) (older newer : List (List ℕ)) → StandsFor j image older newer → Torn a.start 1 image left
-      → Reads j older newer left ⊎ Reads (without_newer j) [] older left
+      → ReadsEntries j older newer left ⊎ ReadsEntries (without_newer j) [] older left
   newer_leaves image left older newer stands torn =
       ⊎_elim (λ before. inl (reads j left older newer is before)) (λ after. inr (reads (without_newer j) left [] older (IsJournal-without_newer j is) after))
       (newer_torn j a image left older newer is stands e torn)
@@ -89,9 +89,9 @@ module _ {S : Type 0} (g : Ghosts S) (s t : S) (j : JournalView) (a : OpenArea) 
   -- at each moment
   pub newer_moments : WhereTold (g.image s) (λ image. LeavesOnly g s t (BesideObjects g s (Torn a.start 1 image)))
       → WhereTold (g.image s) (λ image. (older newer : List (List ℕ)) → StandsFor j image older newer
-      → LeavesOnly g s t (BesideObjects g s (λ left. Reads j older newer left ⊎ Reads (without_newer j) [] older left)))
+      → LeavesOnly g s t (BesideObjects g s (λ left. ReadsEntries j older newer left ⊎ ReadsEntries (without_newer j) [] older left)))
   newer_moments leaves =
-      moments_from g s t j (λ image left. Torn a.start 1 image left) (λ older newer left. Reads j older newer left ⊎ Reads (without_newer j) [] older left) leaves
+      moments_from g s t j (λ image left. Torn a.start 1 image left) (λ older newer left. ReadsEntries j older newer left ⊎ ReadsEntries (without_newer j) [] older left) leaves
       (newer_leaves j a is e)
 
   -- at its end

@@ -6,13 +6,13 @@ use Rattle.sky_outside.specs.Moments.{LeavesOnly, BesideObjects, NothingPending}
 use Rattle.sky_outside.specs.Told.{WhereTold, BothTold}
 use Rattle.sky_outside.specs.declared.storage.Storage.{Ghosts}
 use Rattle.sky_journal.specs.Written.{IsBehindBatchGate, IsOpening}
-use Rattle.sky_journal.specs.Journal.{JournalView, IsJournal, IsOpenArea, ArePending, StandsFor, StandsOn, Reads, batch_size, after_commit}
+use Rattle.sky_journal.specs.Journal.{JournalView, IsJournal, IsOpenArea, ArePending, StandsFor, StandsOn, ReadsEntries, batch_size, after_commit}
 use Rattle.sky_journal.specs.declared.open_area.OpenArea.{OpenArea}
 use Rattle.sky_journal.proofs.Appending.{batch_size-some}
 use Rattle.sky_journal.proofs.Crash.{body_torn, gate_torn, committed}
 use Rattle.sky_journal.proofs.Disks.{told_then, told_from, both_from, leaves_weaker}
 use Rattle.sky_journal.proofs.Journals.{IsJournal-after_commit, StandsFor-but}
-use Rattle.sky_journal.proofs.Reading.{reads, Reads-after_commit}
+use Rattle.sky_journal.proofs.Reading.{reads, ReadsEntries-after_commit}
 
 -- the newer area, as it is known
 pub newer_area : (j : JournalView) (a : OpenArea) → IsJournal j → j.newer ≡ Some a → IsOpenArea j.size a
@@ -24,13 +24,13 @@ pending_fits j a is newer = subst (λ (o : Option OpenArea). ArePending j.size o
 -- what is left while a batch is written reads as the entries before it, or with all of it
 pub commit_leaves : (j : JournalView) (a : OpenArea) (bytes image left : List ℕ) (older newer : List (List ℕ)) → IsJournal j → j.newer ≡ Some a
     → IsBehindBatchGate bytes j.pending → (j.pending ≡ [] → ⊥) → StandsFor j image older newer → IsOpening (a.start + a.end) bytes image left
-    → Reads j older newer left ⊎ Reads j older (newer ++ j.pending) left
+    → ReadsEntries j older newer left ⊎ ReadsEntries j older (newer ++ j.pending) left
 commit_leaves j a bytes image left older newer is e behind some stands (inl torn) =
     let fits : a.end + 1 + length bytes ≤ j.size = omega (arith, behind.length_is, batch_size-some j.pending some, (pending_fits j a is e).1) in
     inl (reads j left older newer is (body_torn j a image left older newer (length bytes) is stands e torn fits))
 commit_leaves j a bytes image left older newer is e behind some stands (inr torn) =
     ⊎_elim (λ before. inl (reads j left older newer is before))
-    (λ after. inr (Reads-after_commit j left older (newer ++ j.pending) (reads (after_commit j) left older (newer ++ j.pending) (IsJournal-after_commit j is) after)))
+    (λ after. inr (ReadsEntries-after_commit j left older (newer ++ j.pending) (reads (after_commit j) left older (newer ++ j.pending) (IsJournal-after_commit j is) after)))
     (gate_torn j a bytes image left older newer is stands e behind some torn)
 
 -- how far a batch reaches
@@ -44,13 +44,13 @@ module _ {S : Type 0} (g : Ghosts S) (s t : S) (j : JournalView) (a : OpenArea) 
   -- at each moment
   pub commit_moments : WhereTold (g.image s) (λ image. LeavesOnly g s t (BesideObjects g s (IsOpening (a.start + a.end) bytes image)))
       → WhereTold (g.image s) (λ image. (older newer : List (List ℕ)) → StandsFor j image older newer
-      → LeavesOnly g s t (BesideObjects g s (λ left. Reads j older newer left ⊎ Reads j older (newer ++ j.pending) left)))
+      → LeavesOnly g s t (BesideObjects g s (λ left. ReadsEntries j older newer left ⊎ ReadsEntries j older (newer ++ j.pending) left)))
   commit_moments leaves =
       told_then (λ image. LeavesOnly g s t (BesideObjects g s (IsOpening (a.start + a.end) bytes image)))
       (λ image. (older newer : List (List ℕ)) → StandsFor j image older newer
-      → LeavesOnly g s t (BesideObjects g s (λ left. Reads j older newer left ⊎ Reads j older (newer ++ j.pending) left))) (g.image s) leaves
+      → LeavesOnly g s t (BesideObjects g s (λ left. ReadsEntries j older newer left ⊎ ReadsEntries j older (newer ++ j.pending) left))) (g.image s) leaves
       (λ image told l older newer stands.
-      leaves_weaker g s t (IsOpening (a.start + a.end) bytes image) (λ left. Reads j older newer left ⊎ Reads j older (newer ++ j.pending) left) l
+      leaves_weaker g s t (IsOpening (a.start + a.end) bytes image) (λ left. ReadsEntries j older newer left ⊎ ReadsEntries j older (newer ++ j.pending) left) l
       (λ left opening. commit_leaves j a bytes image left older newer is e behind some stands opening))
 
   holds_after : (k : JournalView) (spare : ℕ) → k ≡ record (after_commit j) { spare = spare } → (image : List ℕ) (older newer : List (List ℕ)) → StandsFor j image older newer

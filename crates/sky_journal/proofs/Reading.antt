@@ -10,7 +10,7 @@ use Rattle.sky_outside.specs.Image.{bytes_at}
 use Rattle.sky_journal.specs.Layout.{is_open, number_8, volume_place, area_header, batch_header, count_at, body_at, next_batch}
 use Rattle.sky_journal.specs.Text.{all_of_grammar, Area, batch_at, batches_from, base_of, numbered, area_entries, second_is_older, in_order, open_areas, first_area, second_area, areas_entries, entries_of}
 use Rattle.sky_journal.specs.Laid.{joined, IsBatch, HasBatches, IsArea, IsLaid, BeginsAt, IsFree}
-use Rattle.sky_journal.specs.Journal.{JournalView, IsOpenArea, GoesOn, AreInOrder, IsJournal, StandsFor, numbered_in, base_in, ReadsAs, Reads, entries, first_base, area_with, after_commit, after_rotation}
+use Rattle.sky_journal.specs.Journal.{JournalView, IsOpenArea, GoesOn, AreInOrder, IsJournal, StandsFor, numbered_in, base_in, ReadsAs, ReadsEntries, entries, first_base, area_with, after_commit, after_rotation}
 use Rattle.sky_journal.specs.declared.open_area.OpenArea.{OpenArea}
 use Rattle.sky_journal.proofs.Entries.{entries_in-length}
 use Rattle.sky_journal.proofs.Halves.{IsHalf}
@@ -309,7 +309,7 @@ of_areas is_entry volume size covers image fits =
     rw large refl
 
 -- An image reads as the entries for which a journal stands over it.
-pub reads : (j : JournalView) (image : List ℕ) (older newer : List (List ℕ)) → IsJournal j → StandsFor j image older newer → Reads j older newer image
+pub reads : (j : JournalView) (image : List ℕ) (older newer : List (List ℕ)) → IsJournal j → StandsFor j image older newer → ReadsEntries j older newer image
 reads j image older newer is stands = λ is_entry covers all le.
     of_areas is_entry j.volume j.size covers image (omega (arith, is.fits, stands.size))
     ∙ disk_reads is_entry j.volume j.size covers image j.older j.newer older newer (omega (arith, is.least)) is.older is.newer is.in_order stands.older_is stands.newer_is stands.others all le
@@ -328,8 +328,8 @@ committed_same j (Some b) None older es = (refl, refl)
 committed_same j (Some b) (Some a) older es = (refl, refl)
 
 -- what reads as the journal's entries after a commit reads so as the journal's before it
-pub Reads-after_commit : (j : JournalView) (image : List ℕ) (older es : List (List ℕ)) → Reads (after_commit j) older es image → Reads j older es image
-Reads-after_commit j image older es read =
+pub ReadsEntries-after_commit : (j : JournalView) (image : List ℕ) (older es : List (List ℕ)) → ReadsEntries (after_commit j) older es image → ReadsEntries j older es image
+ReadsEntries-after_commit j image older es read =
     let same = committed_same j j.older j.newer older es in
     subst (λ (base : ℕ). ReadsAs j.volume j.size base (entries j older es) image) same.0
     (subst (λ (list : List (ℕ × List ℕ)). ReadsAs j.volume j.size (first_base (after_commit j)) list image) same.1 read)
@@ -340,7 +340,7 @@ unfolding numbered
 rotated_same o older newer n base e = append-nil (numbered_in n newer) ∙ ap (λ (o : Option OpenArea). numbered_in o older ++ numbered_in n newer) (sym e)
 
 -- what reads as its entries after a rotation reads so as those before it, behind the first base after it
-pub Reads-after_rotation : (j : JournalView) (base : ℕ) (image : List ℕ) (older newer : List (List ℕ)) → j.older ≡ None → Reads (after_rotation j base) newer [] image
+pub ReadsEntries-after_rotation : (j : JournalView) (base : ℕ) (image : List ℕ) (older newer : List (List ℕ)) → j.older ≡ None → ReadsEntries (after_rotation j base) newer [] image
     → ReadsAs j.volume j.size (first_base (after_rotation j base)) (entries j older newer) image
-Reads-after_rotation j base image older newer e read =
+ReadsEntries-after_rotation j base image older newer e read =
     subst (λ (list : List (ℕ × List ℕ)). ReadsAs j.volume j.size (first_base (after_rotation j base)) list image) (rotated_same j.older older newer j.newer base e) read

@@ -4,17 +4,17 @@ use Rattle.sky_outside.specs.Moments.{SameCloud, LeavesOnly, BesideObjects}
 use Rattle.sky_outside.specs.Told.{WhereTold, BothTold}
 use Rattle.sky_outside.specs.declared.storage.Storage.{Ghosts}
 use Rattle.sky_outside.proofs.MomentLaws.{LeavesOnly-disk_then}
-use Rattle.sky_journal.specs.Journal.{JournalView, StandsFor, Reads, without_newer, wiped}
+use Rattle.sky_journal.specs.Journal.{JournalView, StandsFor, ReadsEntries, without_newer, wiped}
 use Rattle.sky_journal.proofs.Calls.{both_then}
 use Rattle.sky_journal.proofs.Disks.{told_then, leaves_weaker}
 
 -- what a call leaves that closes the newer area
 abbrev pub LeavesNewer : JournalView → List (List ℕ) → List (List ℕ) → List ℕ → Type 0
-LeavesNewer j older newer left = Reads j older newer left ⊎ Reads (without_newer j) [] older left
+LeavesNewer j older newer left = ReadsEntries j older newer left ⊎ ReadsEntries (without_newer j) [] older left
 
 -- what a wipe leaves
 abbrev pub LeavesWiped : JournalView → List (List ℕ) → List (List ℕ) → List ℕ → Type 0
-LeavesWiped j older newer left = Reads j older newer left ⊎ Reads (without_newer j) [] older left ⊎ Reads (wiped j) [] [] left
+LeavesWiped j older newer left = ReadsEntries j older newer left ⊎ ReadsEntries (without_newer j) [] older left ⊎ ReadsEntries (wiped j) [] [] left
 
 -- what the first call leaves
 first_leaves : (j : JournalView) (older newer : List (List ℕ)) (left : List ℕ) → LeavesNewer j older newer left → LeavesWiped j older newer left
@@ -24,8 +24,8 @@ first_leaves j older newer left read = ⊎_elim (λ before. inl before) (λ gone
 second_leaves : (j m : JournalView) (spare : ℕ) → m ≡ record (without_newer j) { spare = spare } → (older newer : List (List ℕ)) (left : List ℕ) → LeavesNewer m [] older left
     → LeavesWiped j older newer left
 second_leaves j m spare same older newer left read =
-    ⊎_elim (λ before. inr (inl (subst (λ (v : JournalView). Reads v [] older left) same before)))
-    (λ gone. inr (inr (subst (λ (v : JournalView). Reads (without_newer v) [] [] left) same gone))) read
+    ⊎_elim (λ before. inr (inl (subst (λ (v : JournalView). ReadsEntries v [] older left) same before)))
+    (λ gone. inr (inr (subst (λ (v : JournalView). ReadsEntries (without_newer v) [] [] left) same gone))) read
 
 module _ {S : Type 0} (g : Ghosts S) where
   -- where the first call fails

@@ -145,8 +145,8 @@ ReadsAs volume size base list image =
     → entries_of is_entry volume size covers image ≡ Ok list
 
 -- an image reads as the entries for which the journal stands
-abbrev pub Reads : JournalView → List (List ℕ) → List (List ℕ) → List ℕ → Type 0
-Reads j older newer image = ReadsAs j.volume j.size (first_base j) (entries j older newer) image
+abbrev pub ReadsEntries : JournalView → List (List ℕ) → List (List ℕ) → List ℕ → Type 0
+ReadsEntries j older newer image = ReadsAs j.volume j.size (first_base j) (entries j older newer) image
 
 -- ---- what its calls do
 

@@ -3,6 +3,7 @@ pub mod EntryPlaces
 pub mod Faults
 pub mod Journal
 pub mod Laid
+pub mod Lasting
 pub mod Layout
 pub mod Looking
 pub mod OnePass

@@ -4,7 +4,7 @@ ghost use Rattle.std.specs.Prelude.{◌≡◌, ◌⊎◌, ◌≤◌, ℕ, false,
 ghost use Rattle.sky_outside.specs.Count.{Counts};
 ghost use Rattle.sky_outside.specs.Moments.{SameCloud, LeavesOnly, BesideObjects};
 ghost use Rattle.sky_outside.specs.Told.{WhereTold, BothTold};
-ghost use Rattle.sky_journal.specs.Journal.{StandsFor, StandsOn, Reads, SameButSpare, without_older, without_newer, wiped};
+ghost use Rattle.sky_journal.specs.Journal.{StandsFor, StandsOn, ReadsEntries, SameButSpare, without_older, without_newer, wiped};
 ghost use Rattle.sky_journal.specs.Rest.{after_failure, LeavesRest};
 
 use crate::batch::clear_batch;
@@ -25,7 +25,7 @@ impl Journal {
         ensures stands { OnOk result (StandsOn D.Storage self.new disk.new) }
         ensures any_moment { WhereTold (D.image disk.old) (λ image. (older newer : List (List ℕ)) → StandsFor self.old image older newer
             → LeavesOnly D.Storage disk.old disk.new (BesideObjects D.Storage disk.old
-            (λ left. Reads self.old older newer left ⊎ Reads (without_older self.old) [] newer left))) }
+            (λ left. ReadsEntries self.old older newer left ⊎ ReadsEntries (without_older self.old) [] newer left))) }
         ensures rest { BothTold (LeavesRest self.old) (D.image disk.old) (D.image disk.new) }
         ensures down { self.new.down ≡ is_err result }
         ensures failed { OnErr result (self.new ≡ after_failure self.old) }
@@ -53,7 +53,7 @@ impl Journal {
         ensures stands { OnOk result (StandsOn D.Storage self.new disk.new) }
         ensures any_moment { WhereTold (D.image disk.old) (λ image. (older newer : List (List ℕ)) → StandsFor self.old image older newer
             → LeavesOnly D.Storage disk.old disk.new (BesideObjects D.Storage disk.old
-            (λ left. Reads self.old older newer left ⊎ Reads (without_newer self.old) [] older left))) }
+            (λ left. ReadsEntries self.old older newer left ⊎ ReadsEntries (without_newer self.old) [] older left))) }
         ensures rest { BothTold (LeavesRest self.old) (D.image disk.old) (D.image disk.new) }
         ensures down { self.new.down ≡ is_err result }
         ensures failed { OnErr result (self.new ≡ after_failure self.old) }
@@ -83,7 +83,7 @@ impl Journal {
         ensures stands { OnOk result (StandsOn D.Storage self.new disk.new) }
         ensures any_moment { WhereTold (D.image disk.old) (λ image. (older newer : List (List ℕ)) → StandsFor self.old image older newer
             → LeavesOnly D.Storage disk.old disk.new (BesideObjects D.Storage disk.old
-            (λ left. Reads self.old older newer left ⊎ Reads (without_newer self.old) [] older left))) }
+            (λ left. ReadsEntries self.old older newer left ⊎ ReadsEntries (without_newer self.old) [] older left))) }
         ensures quiet { self.old.newer ≡ None → disk.new ≡ disk.old }
         ensures none { self.old.newer ≡ None → self.new.newer ≡ None }
         ensures rest { BothTold (LeavesRest self.old) (D.image disk.old) (D.image disk.new) }
@@ -117,7 +117,7 @@ impl Journal {
 
         ensures any_moment { WhereTold (D.image disk.old) (λ image. (older newer : List (List ℕ)) → StandsFor self.old image older newer
             → LeavesOnly D.Storage disk.old disk.new (BesideObjects D.Storage disk.old
-            (λ left. Reads self.old older newer left ⊎ Reads (without_older self.old) [] newer left))) }
+            (λ left. ReadsEntries self.old older newer left ⊎ ReadsEntries (without_older self.old) [] newer left))) }
 
         ensures quiet { self.old.older ≡ None → disk.new ≡ disk.old }
         ensures rest { BothTold (LeavesRest self.old) (D.image disk.old) (D.image disk.new) }
@@ -151,7 +151,7 @@ impl Journal {
 
         ensures any_moment { WhereTold (D.image disk.old) (λ image. (older newer : List (List ℕ)) → StandsFor self.old image older newer
             → LeavesOnly D.Storage disk.old disk.new (BesideObjects D.Storage disk.old
-            (λ left. Reads self.old older newer left ⊎ Reads (without_newer self.old) [] older left ⊎ Reads (wiped self.old) [] [] left))) }
+            (λ left. ReadsEntries self.old older newer left ⊎ ReadsEntries (without_newer self.old) [] older left ⊎ ReadsEntries (wiped self.old) [] [] left))) }
 
         ensures quiet { self.old.newer ≡ None → disk.new ≡ disk.old }
         ensures rest { BothTold (LeavesRest self.old) (D.image disk.old) (D.image disk.new) }

@@ -1,11 +1,12 @@
 //! Bringing the journal to its disk: commits, rotations, and the closing of areas.
 
-ghost use Rattle.std.specs.Prelude.{◌≡◌, ◌≢◌, ◌+◌, ◌⊎◌, ◌<◌, ◌≤◌, ℕ, false, List, [], ◌++◌, None, Some, IfSome, OnOk, OnErr, IsErr, is_err};
+ghost use Rattle.std.specs.Prelude.{◌≡◌, ◌≢◌, ◌+◌, ◌≤◌, false, [], Some, IfSome, OnOk, OnErr, IsErr, is_err};
 ghost use Rattle.sky_base.specs.Limits.{max_number};
 ghost use Rattle.sky_outside.specs.Count.{Counts};
-ghost use Rattle.sky_outside.specs.Moments.{SameCloud, LeavesOnly, BesideObjects};
+ghost use Rattle.sky_outside.specs.Moments.{SameCloud};
 ghost use Rattle.sky_outside.specs.Told.{WhereTold, BothTold};
-ghost use Rattle.sky_journal.specs.Journal.{StandsFor, StandsOn, Reads, SameButSpare, after_commit, after_rotation, without_older, without_newer, wiped};
+ghost use Rattle.sky_journal.specs.Journal.{StandsOn, SameButSpare, after_commit};
+ghost use Rattle.sky_journal.specs.Lasting.{HoldsMore, LeavesMore, LeavesOldOrMore};
 ghost use Rattle.sky_journal.specs.Rest.{after_failure, LeavesRest};
 ghost use Rattle.sky_journal.specs.Written.{HasBatchUnused};
 
@@ -23,13 +24,10 @@ impl Journal {
         requires stands { StandsOn D.Storage self.old disk.old }
         requires up { self.old.down ≡ false }
         ensures ok { OnOk result (SameButSpare (after_commit self.old) self.new) }
-        ensures holds { OnOk result (BothTold (λ old new. (older newer : List (List ℕ)) → StandsFor self.old old older newer
-            → StandsFor self.new new older (newer ++ self.old.pending)) (D.image disk.old) (D.image disk.new)) }
+        ensures holds { OnOk result (HoldsMore D.Storage disk.old disk.new self.old self.new self.old.pending) }
         ensures stands { OnOk result (StandsOn D.Storage self.new disk.new) }
         ensures unused { OnOk result (WhereTold (D.image disk.new) (HasBatchUnused (area.start + area.end))) }
-        ensures any_moment { WhereTold (D.image disk.old) (λ image. (older newer : List (List ℕ)) → StandsFor self.old image older newer
-            → LeavesOnly D.Storage disk.old disk.new (BesideObjects D.Storage disk.old
-            (λ left. Reads self.old older newer left ⊎ Reads self.old older (newer ++ self.old.pending) left))) }
+        ensures any_moment { LeavesOldOrMore D.Storage disk.old disk.new self.old self.old.pending }
         ensures rest { BothTold (LeavesRest self.old) (D.image disk.old) (D.image disk.new) }
         ensures down { self.new.down ≡ is_err result }
         ensures failed { OnErr result (self.new ≡ after_failure self.old) }
@@ -64,16 +62,12 @@ impl Journal {
         requires stands { StandsOn D.Storage self.old disk.old }
 
         ensures ok { OnOk result (SameButSpare (after_commit self.old) self.new) }
-        ensures holds { OnOk result (BothTold (λ old new. (older newer : List (List ℕ)) → StandsFor self.old old older newer
-            → StandsFor self.new new older (newer ++ self.old.pending)) (D.image disk.old) (D.image disk.new)) }
+        ensures holds { OnOk result (HoldsMore D.Storage disk.old disk.new self.old self.new self.old.pending) }
         ensures stands { OnOk result (StandsOn D.Storage self.new disk.new) }
 
-        ensures any_moment { WhereTold (D.image disk.old) (λ image. (older newer : List (List ℕ)) → StandsFor self.old image older newer
-            → LeavesOnly D.Storage disk.old disk.new (BesideObjects D.Storage disk.old
-            (λ left. Reads self.old older newer left ⊎ Reads self.old older (newer ++ self.old.pending) left))) }
+        ensures any_moment { LeavesOldOrMore D.Storage disk.old disk.new self.old self.old.pending }
         // Acknowledged: from then on each crash leaves the batch.
-        ensures durable { OnOk result (WhereTold (D.image disk.old) (λ image. (older newer : List (List ℕ)) → StandsFor self.old image older newer
-            → (left : List ℕ) → D.may_leave disk.new left → Reads self.old older (newer ++ self.old.pending) left)) }
+        ensures durable { OnOk result (LeavesMore D.Storage disk.old disk.new self.old self.old.pending) }
 
         // Bytes that are not used are zero in what it writes.
         ensures unused { OnOk result (self.old.pending ≢ []

@@ -4,7 +4,7 @@ use Rattle.std.proofs.Math.Seq.{take-add}
 use Rattle.std.proofs.lemmas.List.{take_all, take-append-drop, nil_from_length}
 use Rattle.sky_record.proofs.Reading.{one_text, closed_reads_on}
 use Rattle.std.specs.Prelude.{IsTrue, ◌↔◌}
-use Rattle.sky_record.specs.Stream.{Received, IsOpen, Comes, Reads}
+use Rattle.sky_record.specs.Stream.{Received, IsOpen, Comes, ReadsRecords}
 
 pub record GoesOn (old new : Received) (taken : ℕ) (piece : List ℕ) : Type 0 where
   pub within : taken ≤ length piece
@@ -43,19 +43,19 @@ stops text piece taken count new other p q taken_le count_le all closed =
     (omega (arith, ap length one.0, length-append text (take taken piece), length-append text (take count piece), length-take taken piece, length-take count piece), one.1)
 
 -- a whole piece is read
-pub piece_read : (stream piece : List ℕ) (records : List (List ℕ)) (now : Received) (taken : ℕ) → Reads (stream ++ take taken piece) records now → ((IsOpen now.progress → ⊥) ⊎ (length piece ≤ taken)) → Reads (stream ++ piece) records now
-piece_read stream piece records now taken h (inr le) = subst (λ (t : List ℕ). Reads (stream ++ t) records now) (take_all taken piece le) h
+pub piece_read : (stream piece : List ℕ) (records : List (List ℕ)) (now : Received) (taken : ℕ) → ReadsRecords (stream ++ take taken piece) records now → ((IsOpen now.progress → ⊥) ⊎ (length piece ≤ taken)) → ReadsRecords (stream ++ piece) records now
+piece_read stream piece records now taken h (inr le) = subst (λ (t : List ℕ). ReadsRecords (stream ++ t) records now) (take_all taken piece le) h
 piece_read stream piece records now taken h (inl closed) =
     let e : (stream ++ take taken piece) ++ drop taken piece ≡ stream ++ piece = append_assoc stream (take taken piece) (drop taken piece) ∙ ap (λ (t : List ℕ). stream ++ t) (take-append-drop taken piece) in
-    subst (λ (t : List ℕ). Reads t records now) e (closed_reads_on (stream ++ take taken piece) (drop taken piece) records now.bytes now.progress h closed)
+    subst (λ (t : List ℕ). ReadsRecords t records now) e (closed_reads_on (stream ++ take taken piece) (drop taken piece) records now.bytes now.progress h closed)
 
 -- a piece is read further
 pub reads_further : (old : Received) (records now_records new_records : List (List ℕ)) (now new : Received) (taken more : ℕ) (piece : List ℕ)
-    → ((stream : List ℕ) → Reads stream records old → Reads (stream ++ take taken piece) now_records now)
-    → ((stream : List ℕ) → Reads stream now_records now → Reads (stream ++ take more (take (length piece - taken) (drop taken piece))) new_records new)
-    → (stream : List ℕ) → Reads stream records old → Reads (stream ++ take (taken + more) piece) new_records new
+    → ((stream : List ℕ) → ReadsRecords stream records old → ReadsRecords (stream ++ take taken piece) now_records now)
+    → ((stream : List ℕ) → ReadsRecords stream now_records now → ReadsRecords (stream ++ take more (take (length piece - taken) (drop taken piece))) new_records new)
+    → (stream : List ℕ) → ReadsRecords stream records old → ReadsRecords (stream ++ take (taken + more) piece) new_records new
 reads_further old records now_records new_records now new taken more piece so_far next stream h =
     let rest : List ℕ = take (length piece - taken) (drop taken piece) in
     let e : (stream ++ take taken piece) ++ take more rest ≡ stream ++ take (taken + more) piece =
     append_assoc stream (take taken piece) (take more rest) ∙ ap (λ (t : List ℕ). stream ++ (take taken piece ++ take more t)) (rest-is taken piece) ∙ ap (λ (t : List ℕ). stream ++ t) (sym (take-add taken more piece)) in
-    subst (λ (t : List ℕ). Reads t new_records new) e (next (stream ++ take taken piece) (so_far stream h))
+    subst (λ (t : List ℕ). ReadsRecords t new_records new) e (next (stream ++ take taken piece) (so_far stream h))

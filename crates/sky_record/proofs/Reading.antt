@@ -8,7 +8,7 @@ use Rattle.sky_base.specs.Limits.{max_record_bytes}
 use Rattle.sky_record.specs.declared.assembler.Fed.{Fed}
 use Rattle.sky_record.specs.declared.assembler.Fed.TheVariants as fed
 use Rattle.sky_record.specs.Record.{Fragment, encoding, joined, IsWhole, IsRecord}
-use Rattle.sky_record.specs.Stream.{Progress, AtHeader, InFragment, Whole, TooLong, Received, nothing, IsOpen, IsSoFar, Comes, Ends, Reads, Completes}
+use Rattle.sky_record.specs.Stream.{Progress, AtHeader, InFragment, Whole, TooLong, Received, nothing, IsOpen, IsSoFar, Comes, Ends, ReadsRecords, Completes}
 use Rattle.sky_record.specs.Parts.{with_due, with_header}
 use Rattle.sky_record.specs.Feeding.{answer_at, FedReads}
 use Rattle.sky_record.proofs.Sound.{IsBytes, IsBytes-one, IsBytes-append, no_prefix, header_goes_on, fragment_goes_on}
@@ -83,7 +83,7 @@ stop_is_no_record stream end text rest first s e h =
     let one = one_text s.text s.after text rest end (received first Whole) s.comes h (sym s.is ∙ e) s.all (λ o. absurd o) in
     s.not_whole (ap (λ (r : Received). r.progress) one.1)
 
-pub one_reading : (stream : List ℕ) (records others : List (List ℕ)) (end other : Received) → Reads stream records end → Reads stream others other → (records ≡ others) × (end ≡ other)
+pub one_reading : (stream : List ℕ) (records others : List (List ℕ)) (end other : Received) → ReadsRecords stream records end → ReadsRecords stream others other → (records ≡ others) × (end ≡ other)
 one_reading stream [] [] end other p q =
     let s = stop_of stream end.bytes end.progress p in
     let t = stop_of stream other.bytes other.progress q in
@@ -92,13 +92,13 @@ one_reading stream [] (b ∷ others) end other p q = absurd (stop_is_no_record s
 one_reading stream (a ∷ records) [] end other p q = absurd (stop_is_no_record stream other p.0 p.1 a (stop_of stream other.bytes other.progress q) p.2 p.3)
 one_reading stream (a ∷ records) (b ∷ others) end other p q =
     let one = one_text p.0 p.1 q.0 q.1 (received a Whole) (received b Whole) p.3 q.3 (sym p.2 ∙ q.2) (λ o. absurd o) (λ o. absurd o) in
-    let rest = one_reading p.1 records others end other p.4 (subst (λ (t : List ℕ). Reads t others other) (sym one.2) q.4) in
+    let rest = one_reading p.1 records others end other p.4 (subst (λ (t : List ℕ). ReadsRecords t others other) (sym one.2) q.4) in
     let heads : a ≡ b = ap (λ (r : Received). r.bytes) one.1 in
     (ap (λ (t : List ℕ). t ∷ records) heads ∙ ap (λ (t : List (List ℕ)). b ∷ t) rest.0, rest.1)
 
 -- ---- a reading goes on
 
-pub reads_nothing : Reads [] [] nothing
+pub reads_nothing : ReadsRecords [] [] nothing
 reads_nothing = record { prefix = []; is_prefix = no_prefix; text_is = refl; short = omega arith }
 
 open_end : (stream bytes : List ℕ) (progress : Progress) → Ends stream bytes progress → IsOpen progress → IsSoFar stream bytes progress
@@ -119,7 +119,7 @@ fed_later fed.More stream text rest first records r e h p = (p.0, (text, rest, e
 fed_later fed.TooLong stream text rest first records r e h p = (p.0, (text, rest, e, h, p.1))
 
 -- what goes on of a record goes on of the stream
-pub reads_on : (stream more : List ℕ) (records : List (List ℕ)) (old new : Received) → Reads stream records old → IsOpen old.progress
+pub reads_on : (stream more : List ℕ) (records : List (List ℕ)) (old new : Received) → ReadsRecords stream records old → IsOpen old.progress
     → ((text : List ℕ) → Comes text old → Comes (text ++ more) new) → FedReads (answer_at new.progress) (stream ++ more) records new
 reads_on stream more [] old new h o goes = fed_first (stream ++ more) new.bytes new.progress (goes stream (open_end stream old.bytes old.progress h o))
 reads_on stream more (first ∷ records) old new h o goes =
@@ -127,7 +127,7 @@ reads_on stream more (first ∷ records) old new h o goes =
     fed_later (answer_at new.progress) (stream ++ more) h.0 (h.1 ++ more) first records new e h.3 (reads_on h.1 more records old new h.4 o goes)
 
 -- what comes behind a header that is too long does not matter
-pub too_long_reads_on : (stream more : List ℕ) (records : List (List ℕ)) (bytes : List ℕ) → Reads stream records (received bytes TooLong) → Reads (stream ++ more) records (received bytes TooLong)
+pub too_long_reads_on : (stream more : List ℕ) (records : List (List ℕ)) (bytes : List ℕ) → ReadsRecords stream records (received bytes TooLong) → ReadsRecords (stream ++ more) records (received bytes TooLong)
 too_long_reads_on stream more [] bytes h = (h.0, h.1 ++ more, ap (λ (t : List ℕ). t ++ more) h.2 ∙ append_assoc h.0 h.1 more, h.3)
 too_long_reads_on stream more (first ∷ records) bytes h = (h.0, h.1 ++ more, ap (λ (t : List ℕ). t ++ more) h.2 ∙ append_assoc h.0 h.1 more, h.3, too_long_reads_on h.1 more records bytes h.4)
 
@@ -140,7 +140,7 @@ PartFits Whole = Unit {0}
 PartFits TooLong = Unit {0}
 
 abbrev HasReading : List ℕ → Type 0
-HasReading stream = (records : List (List ℕ)) × (end : Received) × PartFits end.progress × Reads stream records end
+HasReading stream = (records : List (List ℕ)) × (end : Received) × PartFits end.progress × ReadsRecords stream records end
 
 with_due_fits : (last : Bool) (due : ℕ) → PartFits (with_due last due)
 unfolding PartFits
@@ -164,18 +164,18 @@ reading_of stream records bytes (InFragment last due) h fits = (records, receive
 reading_of stream records bytes Whole h fits = (records ++ bytes ∷ [], nothing, (λ i. omega arith), h)
 reading_of stream records bytes TooLong h fits = (records, received bytes TooLong, tt, h.1)
 
-not_whole : (stream : List ℕ) (records : List (List ℕ)) (bytes : List ℕ) → Reads stream records (received bytes Whole) → ⊥
+not_whole : (stream : List ℕ) (records : List (List ℕ)) (bytes : List ℕ) → ReadsRecords stream records (received bytes Whole) → ⊥
 not_whole stream [] bytes h = h
 not_whole stream (first ∷ records) bytes h = not_whole h.1 records bytes h.4
 
-pub closed_reads_on : (stream more : List ℕ) (records : List (List ℕ)) (bytes : List ℕ) (progress : Progress) → Reads stream records (received bytes progress) → (IsOpen progress → ⊥) → Reads (stream ++ more) records (received bytes progress)
+pub closed_reads_on : (stream more : List ℕ) (records : List (List ℕ)) (bytes : List ℕ) (progress : Progress) → ReadsRecords stream records (received bytes progress) → (IsOpen progress → ⊥) → ReadsRecords (stream ++ more) records (received bytes progress)
 closed_reads_on stream more records bytes (AtHeader part) h closed = absurd (closed tt)
 closed_reads_on stream more records bytes (InFragment last due) h closed = absurd (closed tt)
 closed_reads_on stream more records bytes Whole h closed = absurd (not_whole stream records bytes h)
 closed_reads_on stream more records bytes TooLong h closed = too_long_reads_on stream more records bytes h
 
 -- of one byte more
-byte_reads_on : (stream : List ℕ) (b : ℕ) (records : List (List ℕ)) (bytes : List ℕ) (progress : Progress) → b < 256 → PartFits progress → Reads stream records (received bytes progress) → HasReading (stream ++ b ∷ [])
+byte_reads_on : (stream : List ℕ) (b : ℕ) (records : List (List ℕ)) (bytes : List ℕ) (progress : Progress) → b < 256 → PartFits progress → ReadsRecords stream records (received bytes progress) → HasReading (stream ++ b ∷ [])
 unfolding PartFits
 byte_reads_on stream b records bytes (AtHeader part) lt fits h =
     let all : IsBytes (part ++ b ∷ []) = IsBytes-append part (b ∷ []) fits (IsBytes-one b lt) in
@@ -202,14 +202,14 @@ nothing_fits : PartFits (AtHeader [])
 unfolding PartFits
 nothing_fits i = omega arith
 
-pub has_reading : (stream : List ℕ) → AllByRecursion (λ b. b < 256) stream → (records : List (List ℕ)) × (end : Received) × Reads stream records end
+pub has_reading : (stream : List ℕ) → AllByRecursion (λ b. b < 256) stream → (records : List (List ℕ)) × (end : Received) × ReadsRecords stream records end
 has_reading stream fits =
     let h = bytes_read_on [] stream fits ([], nothing, nothing_fits, reads_nothing) in
     (h.0, h.1, h.3)
 
 -- ---- records that were cut into fragments in any way
 
-pub cut_reads : (cuts : List (List Fragment)) → AllByRecursion (λ cut. IsWhole cut × (length (joined cut) ≤ max_record_bytes)) cuts → Reads (flat_map encoding cuts) (map joined cuts) nothing
+pub cut_reads : (cuts : List (List Fragment)) → AllByRecursion (λ cut. IsWhole cut × (length (joined cut) ≤ max_record_bytes)) cuts → ReadsRecords (flat_map encoding cuts) (map joined cuts) nothing
 cut_reads [] h = reads_nothing
 cut_reads (cut ∷ cuts) h =
     (encoding cut, flat_map encoding cuts, refl, record { fragments = cut; whole = h.0.0; encoded = refl; joins = refl; within = h.0.1 }, cut_reads cuts h.1)
@@ -217,7 +217,7 @@ cut_reads (cut ∷ cuts) h =
 -- ---- a part of a record
 
 -- what has come of a text at its end, where nothing before its end was the end of a record or a header too long
-part_reading : (text more bytes : List ℕ) (records : List (List ℕ)) (end : Received) → 0 < length more → IsRecord (text ++ more) bytes → Reads text records end → (last : Received) × IsOpen last.progress × Reads text [] last
+part_reading : (text more bytes : List ℕ) (records : List (List ℕ)) (end : Received) → 0 < length more → IsRecord (text ++ more) bytes → ReadsRecords text records end → (last : Received) × IsOpen last.progress × ReadsRecords text [] last
 part_reading text more bytes (first ∷ records) end some h p =
     let e : text ++ more ≡ p.0 ++ (p.1 ++ more) = ap (λ (t : List ℕ). t ++ more) p.2 ∙ append_assoc p.0 p.1 more in
     absurd (ends_before p.0 (p.1 ++ more) bytes (received first Whole) p.3 (λ o. o) (omega (arith, length-append p.1 more)) (subst (λ (t : List ℕ). IsRecord t bytes) e h))
@@ -230,7 +230,7 @@ part_reading text more bytes [] end some h p =
           absurd (ends_before s.text (s.after ++ more) bytes end s.comes closed (omega (arith, length-append s.after more)) (subst (λ (t : List ℕ). IsRecord t bytes) e h))
     ]
 
-pub part_reads : (text more bytes : List ℕ) → AllByRecursion (λ b. b < 256) text → 0 < length more → IsRecord (text ++ more) bytes → (end : Received) × IsOpen end.progress × Reads text [] end
+pub part_reads : (text more bytes : List ℕ) → AllByRecursion (λ b. b < 256) text → 0 < length more → IsRecord (text ++ more) bytes → (end : Received) × IsOpen end.progress × ReadsRecords text [] end
 part_reads text more bytes fits some h =
     let r = has_reading text fits in
     part_reading text more bytes r.0 r.1 some h r.2
@@ -238,7 +238,7 @@ part_reads text more bytes fits some h =
 -- ---- a stream that goes on
 
 -- the records of a stream stay where it goes on
-pub records_stay : (stream more : List ℕ) (records all : List (List ℕ)) (end last : Received) → Reads stream records end → Reads (stream ++ more) all last → (later : List (List ℕ)) × (all ≡ records ++ later)
+pub records_stay : (stream more : List ℕ) (records all : List (List ℕ)) (end last : Received) → ReadsRecords stream records end → ReadsRecords (stream ++ more) all last → (later : List (List ℕ)) × (all ≡ records ++ later)
 records_stay stream more [] all end last p q = (all, refl)
 records_stay stream more (first ∷ records) [] end last p q =
     let e : stream ++ more ≡ p.0 ++ (p.1 ++ more) = ap (λ (t : List ℕ). t ++ more) p.2 ∙ append_assoc p.0 p.1 more in
@@ -246,7 +246,7 @@ records_stay stream more (first ∷ records) [] end last p q =
 records_stay stream more (first ∷ records) (other ∷ all) end last p q =
     let e : stream ++ more ≡ p.0 ++ (p.1 ++ more) = ap (λ (t : List ℕ). t ++ more) p.2 ∙ append_assoc p.0 p.1 more in
     let one = one_text p.0 (p.1 ++ more) q.0 q.1 (received first Whole) (received other Whole) p.3 q.3 (sym e ∙ q.2) (λ o. absurd o) (λ o. absurd o) in
-    let rest = records_stay p.1 more records all end last p.4 (subst (λ (t : List ℕ). Reads t all last) (sym one.2) q.4) in
+    let rest = records_stay p.1 more records all end last p.4 (subst (λ (t : List ℕ). ReadsRecords t all last) (sym one.2) q.4) in
     let heads : first ≡ other = ap (λ (r : Received). r.bytes) one.1 in
     (rest.0, ap (λ (t : List (List ℕ)). other ∷ t) rest.1 ∙ ap (λ (t : List ℕ). t ∷ (records ++ rest.0)) (sym heads))
 
@@ -260,7 +260,7 @@ completes_some stream piece fits more =
     let old = has_reading stream fits in
     let new = has_reading (stream ++ piece) (bytes-append stream piece fits more) in
     let later = records_stay stream piece old.0 new.0 old.1 new.1 old.2 new.2 in
-    (later.0, new.1, record { before = old.0; part = old.1; read = old.2; goes_on = subst (λ (t : List (List ℕ)). Reads (stream ++ piece) t new.1) later.1 new.2 })
+    (later.0, new.1, record { before = old.0; part = old.1; read = old.2; goes_on = subst (λ (t : List (List ℕ)). ReadsRecords (stream ++ piece) t new.1) later.1 new.2 })
 
 -- and no others
 pub completes_one : (stream piece : List ℕ) (records others : List (List ℕ)) (end other : Received) → Completes stream piece records end → Completes stream piece others other → (records ≡ others) × (end ≡ other)

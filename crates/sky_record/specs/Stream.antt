@@ -75,13 +75,13 @@ Ends stream bytes Whole = ⊥
 Ends stream bytes TooLong = (text after : List ℕ) × (stream ≡ text ++ after) × StopsTooLong text bytes
 
 -- The stream is these records, one after the other, each as some fragments, and then this end.
-abbrev pub Reads : List ℕ → List (List ℕ) → Received → Type 0
-Reads stream [] end = Ends stream end.bytes end.progress
-Reads stream (first ∷ others) end = (text rest : List ℕ) × (stream ≡ text ++ rest) × IsRecord text first × Reads rest others end
+abbrev pub ReadsRecords : List ℕ → List (List ℕ) → Received → Type 0
+ReadsRecords stream [] end = Ends stream end.bytes end.progress
+ReadsRecords stream (first ∷ others) end = (text rest : List ℕ) × (stream ≡ text ++ rest) × IsRecord text first × ReadsRecords rest others end
 
 -- With this piece behind it a stream has these further records, and then this end.
 pub record Completes (stream piece : List ℕ) (records : List (List ℕ)) (end : Received) : Type 0 where
   pub before : List (List ℕ)
   pub part : Received
-  pub read : Reads stream before part
-  pub goes_on : Reads (stream ++ piece) (before ++ records) end
+  pub read : ReadsRecords stream before part
+  pub goes_on : ReadsRecords (stream ++ piece) (before ++ records) end

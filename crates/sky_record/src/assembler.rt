@@ -4,7 +4,7 @@ ghost use Rattle.std.specs.Prelude.{◌≡◌, ℕ, ◌+◌, ◌-◌, ◌<◌, �
 ghost use Rattle.std.specs.Vec.{vec_capacity};
 ghost use Rattle.sky_base.specs.Limits.{max_record_bytes};
 ghost use Rattle.sky_record.specs.Record.{IsRecord};
-ghost use Rattle.sky_record.specs.Stream.{Received, Whole, TooLong, nothing, IsOpen, Comes, StopsTooLong, Reads};
+ghost use Rattle.sky_record.specs.Stream.{Received, Whole, TooLong, nothing, IsOpen, Comes, StopsTooLong, ReadsRecords};
 ghost use Rattle.sky_record.specs.Feeding.{answer_at, FedReads};
 ghost use Rattle.sky_record.specs.Parts as spec;
 ghost use Rattle.sky_record.specs.Parts.{progress_of, StateFits};
@@ -147,7 +147,7 @@ impl Assembler {
     pub fn new(alloc: Global) -> Result<Assembler, NoMemory>
         ensures empty { IfOk result (λ a. a ≡ nothing) }
         ensures text { IfOk result (λ a. Comes [] a) }
-        ensures stream { IfOk result (λ a. Reads [] [] a) }
+        ensures stream { IfOk result (λ a. ReadsRecords [] [] a) }
     {
         Ok(Assembler {
             bytes: Vec::with_capacity(alloc, RECORD_LIMIT)?,
@@ -237,7 +237,7 @@ impl Assembler {
             → StopsTooLong (text ++ take count piece.now) bytes → (result.0 ≡ count) × (self.new ≡ record { bytes = bytes; progress = TooLong }) }
 
         // So it is with the whole stream.
-        ensures stream { (stream : List ℕ) (records : List (List ℕ)) → Reads stream records self.old
+        ensures stream { (stream : List ℕ) (records : List (List ℕ)) → ReadsRecords stream records self.old
             → FedReads result.1 (stream ++ take result.0 piece.now) records self.new }
     {
         let mut taken = 0;

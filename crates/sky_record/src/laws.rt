@@ -4,7 +4,7 @@ ghost use Rattle.std.specs.Prelude.{◌≡◌, ℕ, ◌<◌, ◌≤◌, List, []
 ghost use Rattle.std.specs.List.{flat_map, AllByRecursion};
 ghost use Rattle.sky_base.specs.Limits.{max_record_bytes};
 ghost use Rattle.sky_record.specs.Record.{Fragment, encoding, joined, IsWhole, IsRecord};
-ghost use Rattle.sky_record.specs.Stream.{Received, nothing, IsOpen, Reads, Completes};
+ghost use Rattle.sky_record.specs.Stream.{Received, nothing, IsOpen, ReadsRecords, Completes};
 
 use crate::RECORD_LIMIT;
 
@@ -18,14 +18,14 @@ pub fn limit_is_as_defined()
 /// no record and the end that it has come to.
 pub fn each_stream_has_one_reading()
     ensures some { (stream : List ℕ) → AllByRecursion (λ byte. byte < 256) stream
-        → (records : List (List ℕ)) × (end : Received) × Reads stream records end }
+        → (records : List (List ℕ)) × (end : Received) × ReadsRecords stream records end }
     ensures one { (stream : List ℕ) (records others : List (List ℕ)) (end other : Received)
-        → Reads stream records end → Reads stream others other → (records ≡ others) × (end ≡ other) }
+        → ReadsRecords stream records end → ReadsRecords stream others other → (records ≡ others) × (end ≡ other) }
     ensures any_cut { (cuts : List (List Fragment))
         → AllByRecursion (λ cut. IsWhole cut × (length (joined cut) ≤ max_record_bytes)) cuts
-        → Reads (flat_map encoding cuts) (map joined cuts) nothing }
+        → ReadsRecords (flat_map encoding cuts) (map joined cuts) nothing }
     ensures part { (text more bytes : List ℕ) → AllByRecursion (λ byte. byte < 256) text → 0 < length more
-        → IsRecord (text ++ more) bytes → (end : Received) × IsOpen end.progress × Reads text [] end }
+        → IsRecord (text ++ more) bytes → (end : Received) × IsOpen end.progress × ReadsRecords text [] end }
 {}
 
 /// A piece behind a stream completes some further records, and no others: the records that the stream had stay.
@@ -35,5 +35,5 @@ pub fn each_piece_completes_its_records()
     ensures one { (stream piece : List ℕ) (records others : List (List ℕ)) (end other : Received)
         → Completes stream piece records end → Completes stream piece others other → (records ≡ others) × (end ≡ other) }
     ensures stay { (stream more : List ℕ) (records all : List (List ℕ)) (end last : Received)
-        → Reads stream records end → Reads (stream ++ more) all last → (later : List (List ℕ)) × (all ≡ records ++ later) }
+        → ReadsRecords stream records end → ReadsRecords (stream ++ more) all last → (later : List (List ℕ)) × (all ≡ records ++ later) }
 {}

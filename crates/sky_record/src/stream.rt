@@ -2,7 +2,7 @@
 
 ghost use Rattle.std.specs.Prelude.{◌≡◌, ℕ, ◌<◌, ◌≤◌, List, [], ◌∷◌, ◌++◌, length, take, OnOk, IfOk};
 ghost use Rattle.std.specs.List.{flat_map};
-ghost use Rattle.sky_record.specs.Stream.{Received, nothing, IsOpen, Reads};
+ghost use Rattle.sky_record.specs.Stream.{Received, nothing, IsOpen, ReadsRecords};
 ghost use Rattle.sky_record.specs.Feeding.{contents};
 
 use crate::assembler::{Assembler, Fed};
@@ -34,8 +34,8 @@ fn feed_once(
     requires ready { IsOpen assembler.old.progress }
     ensures taken { IfOk result (λ taken. taken ≤ length piece.now) }
     ensures some { IfOk result (λ taken. 0 < length piece.now → 0 < taken) }
-    ensures reads { IfOk result (λ taken. (stream : List ℕ) → Reads stream (contents records.old.items) assembler.old
-        → Reads (stream ++ take taken piece.now) (contents records.new.items) assembler.new) }
+    ensures reads { IfOk result (λ taken. (stream : List ℕ) → ReadsRecords stream (contents records.old.items) assembler.old
+        → ReadsRecords (stream ++ take taken piece.now) (contents records.new.items) assembler.new) }
 {
     let (taken, fed) = assembler.feed(piece);
     match fed {
@@ -54,8 +54,8 @@ fn feed_whole(
     piece: &[u8],
     records: &mut Vec<Vec<u8>>,
 ) -> Result<(), NoMemory>
-    ensures { OnOk result ((stream : List ℕ) → Reads stream (contents records.old.items) assembler.old
-        → Reads (stream ++ piece.now) (contents records.new.items) assembler.new) }
+    ensures { OnOk result ((stream : List ℕ) → ReadsRecords stream (contents records.old.items) assembler.old
+        → ReadsRecords (stream ++ piece.now) (contents records.new.items) assembler.new) }
 {
     let mut taken = 0;
     while taken < piece.len() && assembler.is_ready() {
@@ -68,10 +68,10 @@ fn feed_whole(
 /// record under way, or with the one that is too long. Fails where memory runs out.
 pub fn assemble(alloc: Global, pieces: &[&[u8]]) -> Result<(Vec<Vec<u8>>, Assembler), NoMemory>
     // Joined, the pieces read as these records and this end.
-    ensures reads { IfOk result (λ read. Reads (flat_map (λ piece. piece.now) pieces.now) (contents read.0.items) read.1) }
+    ensures reads { IfOk result (λ read. ReadsRecords (flat_map (λ piece. piece.now) pieces.now) (contents read.0.items) read.1) }
     // They read in no other way, so it does not matter how the stream was cut into pieces.
     ensures only { IfOk result (λ read. (others : List (List ℕ)) (end : Received)
-        → Reads (flat_map (λ piece. piece.now) pieces.now) others end → (contents read.0.items ≡ others) × (read.1 ≡ end)) }
+        → ReadsRecords (flat_map (λ piece. piece.now) pieces.now) others end → (contents read.0.items ≡ others) × (read.1 ≡ end)) }
 {
     let mut assembler = Assembler::new(alloc)?;
     let mut records = Vec::new(alloc);

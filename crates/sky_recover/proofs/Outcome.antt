@@ -1,6 +1,6 @@
 -- What an opening found and left, from what its steps gave. Crates above cite this.
 use Rattle.std.specs.Prelude.{nat_lt, IsSome}
-use Rattle.std.proofs.Common.{◌≡◌, ℕ, ◌+◌, List, length, Some, Ok, refl, sym, ap, subst, ◌∙◌, arith}
+use Rattle.std.proofs.Common.{◌≡◌, ℕ, ◌+◌, List, length, Some, Result, Ok, refl, sym, ap, subst, ◌∙◌, arith}
 use Rattle.sky_calls.specs.Durable.{DurableView}
 use Rattle.sky_nfs.specs.History.{History}
 use Rattle.sky_nfs.specs.Tree.{empty_tree}
@@ -11,10 +11,10 @@ use Rattle.sky_outside.specs.Told.{WhereTold}
 use Rattle.sky_outside.specs.declared.storage.Storage.{Ghosts}
 use Rattle.sky_outside.proofs.ToldLaws.{WhereTold-at, WhereTold-from}
 use Rattle.sky_journal.specs.Journal.{JournalView, IsJournal, entries, number_behind}
-use Rattle.sky_journal.specs.Text.{Read}
-use Rattle.sky_sound.specs.Cloud.{epoch_after}
+use Rattle.sky_sound.specs.Cloud.{HasNoCheckpoint, epoch_after}
 use Rattle.sky_sound.specs.Entries.{changes_in, entries_above, journal_of}
 use Rattle.sky_sound.specs.Recovery.{history_of}
+use Rattle.sky_sound.specs.Refusal.{Refusal}
 use Rattle.sky_sound.proofs.Above.{history_is}
 use Rattle.sky_sound.proofs.Settled.{settled_area, settled_stays}
 use Rattle.sky_recover.specs.Opening.{BeginsAt, IsFoundOn, IsLeftOf, IsOpened, IsOpenOn, found_by}
@@ -33,17 +33,17 @@ module _ {S : Type 0} (g : Ghosts S) (v a : ℕ) (s u w : S) (j : JournalView) (
   read_at image told = WhereTold-at (g.image u) (IsRead j 0) image (same ∙ told) read
 
   -- the changes are those of the image
-  said : (image : List ℕ) (objects : CloudMap) → g.image s ≡ Some image → history_of v a image objects ≡ Ok history
+  said : (image : List ℕ) (objects : CloudMap) → HasNoCheckpoint objects → g.image s ≡ Some image → history_of v a image objects ≡ Ok history
   unfolding history
-  said image objects told =
+  said image objects none told =
       let reads = read_at image told in
       let list : List (ℕ × List ℕ) = entries j reads.older reads.newer in
       let are : went.changes ≡ changes_in (entries_above 0 list) =
       WhereTold-at (g.image u) (λ x. (l : List (ℕ × List ℕ)) → journal_of j.volume j.size 0 x ≡ Ok l → went.changes ≡ changes_in (entries_above 0 l)) image (same ∙ told) went.told list reads.says in
       let says : journal_of v a 0 image ≡ Ok list =
       ap (λ (n : ℕ). journal_of n a 0 image) (sym volume_is) ∙ ap (λ (n : ℕ). journal_of j.volume n 0 image) (sym size_is) ∙ reads.says in
-      history_is v a image objects list says
-      ∙ ap (λ (l : List Change). let r : Read History = Ok (record { before = 0; tree = empty_tree v; changes = l }) in r) (sym are)
+      history_is v a image objects list none says
+      ∙ ap (λ (l : List Change). let r : Result History Refusal = Ok (record { before = 0; tree = empty_tree v; changes = l }) in r) (sym are)
 
   found : IsValidTree (empty_tree v) → WhereTold (g.objects s) (λ objects. o.epoch ≡ epoch_after objects) → WhereTold (g.objects s) IsClaimable
       → IsFoundOn g v a s (found_by o history d.journal)
@@ -56,7 +56,7 @@ module _ {S : Type 0} (g : Ghosts S) (v a : ℕ) (s u w : S) (j : JournalView) (
     journal_size = ap (λ (x : JournalView). x.size) went.settled ∙ size_is;
     pending = ap (λ (x : JournalView). x.pending) went.settled;
     up = ap (λ (x : JournalView). x.down) went.settled;
-    history = WhereBothTold-from g s (λ image objects. history_of v a image objects ≡ Ok history) (λ image objects told held. said image objects told);
+    history = WhereBothTold-from g s (λ image objects. history_of v a image objects ≡ Ok history) (λ image objects told held. said image objects (WhereTold-at (g.objects s) IsClaimable objects held claimable).no_checkpoint told);
     cloud = WhereTold-from (g.objects s) (BeginsAt v (found_by o history d.journal))
         (λ objects held. record {
           no_checkpoint = (WhereTold-at (g.objects s) IsClaimable objects held claimable).no_checkpoint;

@@ -1,29 +1,40 @@
 -- By what an opening is refused, and that a sound site is refused by none of it. Crates above cite this.
-use Rattle.std.specs.Prelude.{◌&&◌, IsTrue, IsErrOf}
+use Rattle.std.specs.Prelude.{◌&&◌, IsErrOf, IsTrue}
 use Rattle.std.proofs.Common.{◌≡◌, ⊎_elim, inl, inr, ℕ, Bool, true, false, List, [], ◌∷◌, ◌++◌, Option, Some, None, Result, Ok, Err, refl, sym, ap, ◌∙◌, subst}
 use Rattle.std.proofs.lemmas.Bool.{true≢false}
-use Rattle.sky_base.specs.declared.place.Lost.TheVariants.{Damaged, Missing}
-use Rattle.sky_nfs.specs.History.{History, are_done, is_done, tree_after_change, tree_after_changes}
+use Rattle.sky_base.specs.declared.object.SegName.{SegName}
+use Rattle.sky_base.specs.declared.place.Damage.TheVariants.{Form}
+use Rattle.sky_base.specs.declared.place.Lost.TheVariants.{Damaged}
+use Rattle.sky_nfs.specs.History.{History, are_done, history_length, is_done, last_tree, tree_after_change, tree_after_changes}
 use Rattle.sky_nfs.specs.Tree.{Tree, empty_tree}
 use Rattle.sky_nfs.specs.declared.call.Change.{Change}
-use Rattle.sky_outside.specs.CloudMap.{CloudMap}
+use Rattle.sky_outside.specs.CloudMap.{CloudMap, listing}
 use Rattle.sky_outside.specs.Told.{WhereTold}
+use Rattle.sky_outside.specs.declared.site.Held.{Held}
 use Rattle.sky_outside.specs.declared.storage.Storage.{Ghosts}
-use Rattle.sky_outside.proofs.ToldLaws.{WhereTold-at}
+use Rattle.sky_outside.proofs.ToldLaws.{WhereTold-at, WhereTold-from}
+use Rattle.sky_sound.specs.Cloud.{HasNoCheckpoint, last_checkpoint}
 use Rattle.sky_sound.specs.Entries.{change_of, changes_in, entries_above, journal_of, with_change}
-use Rattle.sky_sound.specs.Recovery.{IsSound}
-use Rattle.sky_sound.proofs.Above.{history_from_entries}
+use Rattle.sky_sound.specs.Recovery.{IsSound, recovered}
+use Rattle.sky_sound.specs.Refusal.{Refusal, Foreign}
+use Rattle.sky_sound.proofs.Above.{checkpoint_refused, foreign_refused, history_from_entries, history_recovered}
 use Rattle.sky_sound.proofs.Texts.{ok_same}
-use Rattle.sky_recover.specs.Faults.{IsOfJournal}
+use Rattle.sky_recover.specs.Faults.{of_claim, of_list, of_replay}
 use Rattle.sky_recover.specs.Opening.{WhereBothTold}
-use Rattle.sky_recover.specs.Refusals.{IsClaimable, IsOfDevices, IsOfReading, IsRefusedBy}
-use Rattle.sky_recover.specs.Replaying.{FailsAt}
+use Rattle.sky_recover.specs.Refusals.{IsClaimable, IsJudged, IsLost, IsOfDevices, IsRefusedBy, IsWorn, refusal_of}
+use Rattle.sky_recover.specs.Replaying.{FailsAt, FailsOn}
+use Rattle.sky_recover.specs.declared.fault.ClaimFault.{ClaimFault}
+use Rattle.sky_recover.specs.declared.fault.ClaimFault.TheVariants as claim
+use Rattle.sky_recover.specs.declared.fault.ListFault.{ListFault}
+use Rattle.sky_recover.specs.declared.fault.ListFault.TheVariants as list
 use Rattle.sky_recover.specs.declared.fault.OpenFault.{OpenFault}
 use Rattle.sky_recover.specs.declared.fault.OpenFault.TheVariants as fault
+use Rattle.sky_recover.specs.declared.fault.ReplayFault.{ReplayFault}
+use Rattle.sky_recover.specs.declared.fault.ReplayFault.TheVariants as replay
 use Rattle.sky_recover.proofs.Moments.{WhereBothTold-from}
 
 -- a call ended so
-abbrev pub failed : (T : Type 0) → OpenFault → Result T OpenFault
+abbrev pub failed : {E : Type 0} → (T : Type 0) → E → Result T E
 failed T why = Err why
 
 -- ---- changes that are all answered OK
@@ -70,8 +81,11 @@ module _ (volume size : ℕ) (image : List ℕ) (objects : CloudMap) (is : IsSou
       let done : IsTrue (are_done (empty_tree volume) (changes_in (entries_above 0 found.0))) = subst (λ (h : History). IsTrue (are_done h.tree h.changes)) (sym found.2) is.legal.done in
       subst (λ (l : List (ℕ × List ℕ)). IsTrue (are_done (empty_tree volume) (changes_in (entries_above 0 l)))) (ok_same found.0 list (journal_of volume size 0 image) found.1 says) done
 
-  not_foreign : (at : ℕ) → journal_of volume size 0 image ≡ Err at → ⊥
-  not_foreign at foreign = let found = history_from_entries volume size image objects is.history is.stands_for in let says : journal_of volume size 0 image ≡ Ok found.0 = found.1 in absurd cc
+  not_refused : (why : Refusal) → recovered volume size image objects ≡ Err why → ⊥
+  not_refused why refused =
+      let found : recovered volume size image objects ≡ Ok (record { length = history_length is.history; tree = last_tree is.history }) =
+      history_recovered volume size image objects is.history is.stands_for in
+      absurd cc
 
   -- a sound site is refused by no object and by no byte of its disk
   pub sound_unrefused : (T : Type 0) (why : OpenFault) → IsRefusedBy volume size why image objects → IsOfDevices (failed T why)
@@ -79,51 +93,63 @@ module _ (volume size : ℕ) (image : List ℕ) (objects : CloudMap) (is : IsSou
   sound_unrefused T fault.CloudFault by = tt
   sound_unrefused T fault.Memory by = tt
   sound_unrefused T (fault.Foreign at) by =
-      ⊎_elim (λ (e : journal_of volume size 0 image ≡ Err at). not_foreign at e)
-      (λ (x : (list : List (ℕ × List ℕ)) × (journal_of volume size 0 image ≡ Ok list) × FailsAt (empty_tree volume) size 0 list image at).
-      none_fails (empty_tree volume) size 0 x.0 image at (sound_done x.0 x.1) x.2) by.1
-  sound_unrefused T (fault.Lost (Missing name)) by = by
-  sound_unrefused T (fault.Lost (Damaged name damage)) by = let none = is.no_checkpoint in let some = by.0 in absurd cc
+      ⊎_elim (λ (e : recovered volume size image objects ≡ Err (Foreign at)). not_refused (Foreign at) e)
+      (λ (f : FailsOn volume size image objects at). none_fails (empty_tree volume) size 0 f.list image at (sound_done f.list f.says) f.fails) by
+  sound_unrefused T (fault.Lost what) by = not_refused (refusal_of what) by
   sound_unrefused T fault.Worn by = tt
 
 -- ---- each step's refusals
+
+-- the last checkpoint of the proxy that is listed is lost
+pub lost_listed : (told : Option CloudMap) (held : List Held) (name : SegName) → WhereTold told (λ objects. held ≡ listing objects) → last_checkpoint held ≡ Some name
+    → WhereTold told (λ objects. IsLost objects (Damaged name (Form 0)))
+lost_listed told held name listed is =
+    WhereTold-from told (λ objects. IsLost objects (Damaged name (Form 0)))
+    (λ objects told_is volume size image.
+    let all : held ≡ listing objects = WhereTold-at told (λ o. held ≡ listing o) objects told_is listed in checkpoint_refused volume size image objects name (ap last_checkpoint (sym all) ∙ is))
 
 module _ {S : Type 0} (g : Ghosts S) (volume size : ℕ) (s : S) where
   anyway : (why : OpenFault) → ((image : List ℕ) (objects : CloudMap) → IsRefusedBy volume size why image objects) → WhereBothTold g s (IsRefusedBy volume size why)
   anyway why holds = WhereBothTold-from g s (IsRefusedBy volume size why) (λ image objects told held. holds image objects)
 
+  -- by the cloud's list
+  pub refused_listed : (T : Type 0) (why : ListFault) → WhereTold (g.objects s) (IsJudged (failed T (of_list why))) → WhereBothTold g s (IsRefusedBy volume size (of_list why))
+  refused_listed T list.CloudFault judged = anyway fault.CloudFault (λ image objects. tt)
+  refused_listed T list.Memory judged = anyway fault.Memory (λ image objects. tt)
+  refused_listed T (list.Lost what) judged =
+      WhereBothTold-from g s (IsRefusedBy volume size (fault.Lost what))
+      (λ image objects told held. WhereTold-at (g.objects s) (λ o. IsLost o what) objects held judged volume size image)
+  refused_listed T list.Worn judged =
+      WhereBothTold-from g s (IsRefusedBy volume size fault.Worn)
+      (λ image objects told held. let worn = WhereTold-at (g.objects s) IsWorn objects held judged in (worn.no_checkpoint, worn.no_epoch))
+
   module _ (claimable : WhereTold (g.objects s) IsClaimable) where
-    none_at : (objects : CloudMap) → g.objects s ≡ Some objects → IsClaimable objects
-    none_at objects held = WhereTold-at (g.objects s) IsClaimable objects held claimable
+    none_at : (objects : CloudMap) → g.objects s ≡ Some objects → HasNoCheckpoint objects
+    none_at objects held = (WhereTold-at (g.objects s) IsClaimable objects held claimable).no_checkpoint
 
     -- by the journal, or by the put
-    pub refused_read : (T : Type 0) (why : OpenFault) → IsOfReading (failed T why)
-        → ((at : ℕ) → IsErrOf (failed T why) (fault.Foreign at) → WhereTold (g.image s) (λ image. journal_of volume size 0 image ≡ Err at)) → WhereBothTold g s (IsRefusedBy volume size why)
-    refused_read T fault.DiskFault of foreign = anyway fault.DiskFault (λ image objects. tt)
-    refused_read T fault.CloudFault of foreign = anyway fault.CloudFault (λ image objects. tt)
-    refused_read T fault.Memory of foreign = anyway fault.Memory (λ image objects. tt)
-    refused_read T (fault.Foreign at) of foreign =
+    pub refused_claim : (T : Type 0) (why : ClaimFault) → ((at : ℕ) → IsErrOf (failed T why) (claim.Foreign at) → WhereTold (g.image s) (λ image. journal_of volume size 0 image ≡ Err at))
+        → WhereBothTold g s (IsRefusedBy volume size (of_claim why))
+    refused_claim T claim.DiskFault foreign = anyway fault.DiskFault (λ image objects. tt)
+    refused_claim T claim.CloudFault foreign = anyway fault.CloudFault (λ image objects. tt)
+    refused_claim T claim.Memory foreign = anyway fault.Memory (λ image objects. tt)
+    refused_claim T (claim.Foreign at) foreign =
         WhereBothTold-from g s (IsRefusedBy volume size (fault.Foreign at))
-        (λ image objects told held. ((none_at objects held).no_checkpoint, inl (WhereTold-at (g.image s) (λ x. journal_of volume size 0 x ≡ Err at) image told (foreign at refl))))
-    refused_read T (fault.Lost lost) of foreign = absurd of
-    refused_read T fault.Worn of foreign = absurd of
+        (λ image objects told held.
+        inl (foreign_refused volume size image objects at (none_at objects held) (WhereTold-at (g.image s) (λ x. journal_of volume size 0 x ≡ Err at) image told (foreign at refl))))
 
     -- by a change
-    pub refused_redone : (T : Type 0) (why : OpenFault) → IsOfJournal (failed T why)
-        → ((at : ℕ) → IsErrOf (failed T why) (fault.Foreign at)
+    pub refused_replay : (T : Type 0) (why : ReplayFault)
+        → ((at : ℕ) → IsErrOf (failed T why) (replay.Foreign at)
         → WhereTold (g.image s) (λ image. (list : List (ℕ × List ℕ)) × (journal_of volume size 0 image ≡ Ok list) × FailsAt (empty_tree volume) size 0 list image at))
-        → WhereBothTold g s (IsRefusedBy volume size why)
-    refused_redone T fault.DiskFault of foreign = anyway fault.DiskFault (λ image objects. tt)
-    refused_redone T fault.CloudFault of foreign = absurd of
-    refused_redone T fault.Memory of foreign = anyway fault.Memory (λ image objects. tt)
-    refused_redone T (fault.Foreign at) of foreign =
+        → WhereBothTold g s (IsRefusedBy volume size (of_replay why))
+    refused_replay T replay.DiskFault foreign = anyway fault.DiskFault (λ image objects. tt)
+    refused_replay T replay.Memory foreign = anyway fault.Memory (λ image objects. tt)
+    refused_replay T (replay.Foreign at) foreign =
         WhereBothTold-from g s (IsRefusedBy volume size (fault.Foreign at))
-        (λ image objects told held. (
-          (none_at objects held).no_checkpoint,
-          inr (WhereTold-at (g.image s) (λ x. (list : List (ℕ × List ℕ)) × (journal_of volume size 0 x ≡ Ok list) × FailsAt (empty_tree volume) size 0 list x at) image told (foreign at refl)),
-        ))
-    refused_redone T (fault.Lost lost) of foreign = absurd of
-    refused_redone T fault.Worn of foreign = absurd of
+        (λ image objects told held.
+        let f = WhereTold-at (g.image s) (λ x. (list : List (ℕ × List ℕ)) × (journal_of volume size 0 x ≡ Ok list) × FailsAt (empty_tree volume) size 0 list x at) image told (foreign at refl) in
+        inr (record { no_checkpoint = none_at objects held; list = f.0; says = f.1; fails = f.2 }))
 
   -- where a sound site is refused, it is by its devices or for want of memory
   pub sound_ends : (T : Type 0) (why : OpenFault) → WhereBothTold g s (IsRefusedBy volume size why)

@@ -1,5 +1,5 @@
 -- Doing the changes of a journal again, one after the other.
-use Rattle.std.specs.Prelude.{◌&&◌, IsTrue, nat_lt, if◌then◌else◌}
+use Rattle.std.specs.Prelude.{◌&&◌, IsTrue, nat_lt}
 use Rattle.std.specs.List.{AllByRecursion, slice_get}
 use Rattle.std.proofs.Common.{◌≡◌, ℕ, ◌+◌, ◌<◌, ◌≤◌, Bool, true, false, List, [], ◌∷◌, ◌++◌, length, map, Option, Some, None, Ok, refl, sym, ap, ◌∙◌, subst, arith, append_assoc, length-append}
 use Rattle.std.proofs.lemmas.Bool.{lt-ltb}
@@ -8,7 +8,6 @@ use Rattle.sky_nfs.specs.History.{are_done, is_done, tree_after_change, tree_aft
 use Rattle.sky_nfs.specs.Tree.{Tree}
 use Rattle.sky_nfs.specs.declared.call.Change.{Change}
 use Rattle.sky_entry.specs.Entry.{entry_bytes}
-use Rattle.sky_outside.specs.Image.{bytes_at}
 use Rattle.sky_outside.specs.Moments.{OnlyLooks}
 use Rattle.sky_outside.specs.Told.{WhereTold}
 use Rattle.sky_outside.specs.declared.storage.Storage.{Ghosts}

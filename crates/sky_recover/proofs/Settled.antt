@@ -7,7 +7,7 @@ use Rattle.sky_outside.specs.Told.{WhereTold, BothTold}
 use Rattle.sky_outside.specs.declared.storage.Storage.{Ghosts}
 use Rattle.sky_outside.proofs.MomentLaws.{LeavesOnly-disk_start, LeavesOnly-disk_then, only_read}
 use Rattle.sky_outside.proofs.ToldLaws.{WhereTold-at, WhereTold-from}
-use Rattle.sky_journal.specs.Journal.{JournalView, IsJournal, StandsFor, ReadsAs, Reads, SameButSpare, after_rotation, base_in, entries, first_base, new_area, number_behind, numbered_in, without_newer, without_older, wiped}
+use Rattle.sky_journal.specs.Journal.{JournalView, IsJournal, StandsFor, ReadsAs, ReadsEntries, SameButSpare, after_rotation, base_in, entries, first_base, new_area, number_behind, numbered_in, without_newer, without_older, wiped}
 use Rattle.sky_journal.specs.Text.{numbered}
 use Rattle.sky_journal.specs.declared.open_area.OpenArea.{OpenArea}
 use Rattle.sky_journal.proofs.Disks.{both_at, both_same, leaves_weaker}
@@ -85,12 +85,12 @@ module _ (j : JournalView) (covers : ℕ) (image : List ℕ) (is : IsJournal j) 
       let first : first_base j ≤ covers = omega (arith, first_low j.size j.older j.newer is.in_order is.older is.newer, low) in
       let second : first_base (without_newer j) ≤ covers = omega (arith, base_low j.size j.older is.older, older_low j.size j.older j.newer is.in_order is.newer, low) in
       let alone : AreOfChanges (entries (without_newer j) [] older) = of_changes_first (numbered_in j.older older) (numbered_in j.newer newer) all in
-      ⊎_elim (λ (r : Reads j older newer left). keeps_of j.volume j.size covers (first_base j) (entries j older newer) (entries j older newer) left r first all refl)
+      ⊎_elim (λ (r : ReadsEntries j older newer left). keeps_of j.volume j.size covers (first_base j) (entries j older newer) (entries j older newer) left r first all refl)
       (λ more.
       ⊎_elim
-      (λ (r : Reads (without_newer j) [] older left).
+      (λ (r : ReadsEntries (without_newer j) [] older left).
       keeps_of j.volume j.size covers (first_base (without_newer j)) (entries (without_newer j) [] older) (entries j older newer) left r second alone (older_none ∙ sym none_above))
-      (λ (r : Reads (wiped j) [] [] left). keeps_of j.volume j.size covers 0 [] (entries j older newer) left r (omega arith) tt (sym none_above)) more)
+      (λ (r : ReadsEntries (wiped j) [] [] left). keeps_of j.volume j.size covers 0 [] (entries j older newer) left r (omega arith) tt (sym none_above)) more)
       which
 
 module _ {S : Type 0} (g : Ghosts S) (j : JournalView) (covers : ℕ) (is : IsJournal j) (low : number_behind j.newer 0 ≤ covers) where
@@ -209,7 +209,7 @@ low_from (Some a) covers le = omega (arith, le)
 -- what a crash may leave while it is closed, and for what the journal then stands
 abbrev pub ReleaseMoments : {S : Type 0} → Ghosts S → S → S → JournalView → Type 0
 ReleaseMoments g s t j = WhereTold (g.image s) (λ image. (older newer : List (List ℕ)) → StandsFor j image older newer
-    → LeavesOnly g s t (BesideObjects g s (λ left. Reads j older newer left ⊎ Reads (without_older j) [] newer left)))
+    → LeavesOnly g s t (BesideObjects g s (λ left. ReadsEntries j older newer left ⊎ ReadsEntries (without_older j) [] newer left)))
 
 abbrev pub Releases : {S : Type 0} → Ghosts S → S → S → JournalView → JournalView → Type 0
 Releases g s t j k = BothTold (λ old new. (older newer : List (List ℕ)) → StandsFor j old older newer → StandsFor k new [] newer) (g.image s) (g.image t)
@@ -235,14 +235,14 @@ module _ (j : JournalView) (covers : ℕ) (is : IsJournal j) (low : number_behin
     rest_all : AreOfChanges (entries (without_older j) [] r.newer)
     rest_all = of_changes_second (numbered_in j.older r.older) (numbered_in j.newer r.newer) all
 
-    release_keeps : (list : List (ℕ × List ℕ)) (left : List ℕ) → journal_of j.volume j.size covers image ≡ Ok list → Reads j r.older r.newer left ⊎ Reads (without_older j) [] r.newer left
+    release_keeps : (list : List (ℕ × List ℕ)) (left : List ℕ) → journal_of j.volume j.size covers image ≡ Ok list → ReadsEntries j r.older r.newer left ⊎ ReadsEntries (without_older j) [] r.newer left
         → KeepsAbove j.volume j.size covers list left
     release_keeps list left says which =
         let same : entries j r.older r.newer ≡ list = list_is j covers image list r says in
         subst (λ (l : List (ℕ × List ℕ)). KeepsAbove j.volume j.size covers l left) same
         (⊎_elim
-        (λ (q : Reads j r.older r.newer left). keeps_of j.volume j.size covers (first_base j) (entries j r.older r.newer) (entries j r.older r.newer) left q (based j covers image is r) all refl)
-        (λ (q : Reads (without_older j) [] r.newer left).
+        (λ (q : ReadsEntries j r.older r.newer left). keeps_of j.volume j.size covers (first_base j) (entries j r.older r.newer) (entries j r.older r.newer) left q (based j covers image is r) all refl)
+        (λ (q : ReadsEntries (without_older j) [] r.newer left).
         keeps_of j.volume j.size covers (first_base (without_older j)) (entries (without_older j) [] r.newer) (entries j r.older r.newer) left q (newer_low (based j covers image is r)) rest_all rest_same)
         which)
 
@@ -254,8 +254,8 @@ module _ (j : JournalView) (covers : ℕ) (is : IsJournal j) (low : number_behin
         (λ image told list says.
         let r = WhereTold-at (g.image s) (IsRead j covers) image told read in
         let here = WhereTold-at (g.image s) (λ image. (older newer : List (List ℕ)) → StandsFor j image older newer
-        → LeavesOnly g s t (BesideObjects g s (λ left. Reads j older newer left ⊎ Reads (without_older j) [] newer left))) image told moments r.older r.newer r.stands in
-        leaves_weaker g s t (λ left. Reads j r.older r.newer left ⊎ Reads (without_older j) [] r.newer left) (KeepsAbove j.volume j.size covers list) here
+        → LeavesOnly g s t (BesideObjects g s (λ left. ReadsEntries j older newer left ⊎ ReadsEntries (without_older j) [] newer left))) image told moments r.older r.newer r.stands in
+        leaves_weaker g s t (λ left. ReadsEntries j r.older r.newer left ⊎ ReadsEntries (without_older j) [] r.newer left) (KeepsAbove j.volume j.size covers list) here
         (λ left which. release_keeps image r list left says which))
 
   module _ (k : JournalView) (releases : SameButSpare (without_older j) k) where
@@ -289,8 +289,8 @@ module _ (j : JournalView) (covers : ℕ) (is : IsJournal j) (low : number_behin
           (λ old new. (list : List (ℕ × List ℕ)) → journal_of j.volume j.size covers old ≡ Ok list → KeepsAbove j.volume j.size covers list new) (g.image s) (g.image t) holds
           (λ x y told stands list says.
           let r = WhereTold-at (g.image s) (IsRead j covers) x told read in
-          let q : Reads k [] r.newer y = reads k y [] r.newer k_journal (stands r.older r.newer r.stands) in
-          release_keeps x r list y says (inr (subst (λ (v : JournalView). Reads v [] r.newer y) releases q)))
+          let q : ReadsEntries k [] r.newer y = reads k y [] r.newer k_journal (stands r.older r.newer r.stands) in
+          release_keeps x r list y says (inr (subst (λ (v : JournalView). ReadsEntries v [] r.newer y) releases q)))
 
 -- ---- leaving all as it is
 

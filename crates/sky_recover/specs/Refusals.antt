@@ -1,13 +1,13 @@
 -- How an opening is refused by what the cloud lists.
-use Rattle.std.specs.Prelude.{◌≡◌, ℕ, ◌<◌, List, Some, Result, Ok, Err}
+use Rattle.std.specs.Prelude.{◌≡◌, ℕ, ◌<◌, List, Result, Ok, Err}
 use Rattle.sky_base.specs.Limits.{max_number}
-use Rattle.sky_base.specs.declared.object.SegName.{SegName}
-use Rattle.sky_base.specs.declared.place.Damage.TheVariants.{Form}
 use Rattle.sky_base.specs.declared.place.Lost.{Lost}
-use Rattle.sky_base.specs.declared.place.Lost.TheVariants.{Damaged, Missing}
+use Rattle.sky_base.specs.declared.place.Lost.TheVariants as lost
 use Rattle.sky_outside.specs.CloudMap.{CloudMap}
 use Rattle.sky_outside.specs.declared.storage.Storage.{Ghosts}
-use Rattle.sky_sound.specs.Cloud.{HasNoCheckpoint, checkpoint_in, cloud_tree, covers_of, epoch_after}
+use Rattle.sky_sound.specs.Cloud.{HasNoCheckpoint, epoch_after}
+use Rattle.sky_sound.specs.Recovery.{recovered}
+use Rattle.sky_sound.specs.Refusal.{Refusal, Damaged, Missing}
 use Rattle.sky_recover.specs.Replaying.{IsForeignAt}
 use Rattle.sky_recover.specs.declared.fault.OpenFault.{OpenFault}
 use Rattle.sky_recover.specs.declared.fault.OpenFault.TheVariants as fault
@@ -17,11 +17,14 @@ pub record IsClaimable (objects : CloudMap) : Type 0 where
   pub no_checkpoint : HasNoCheckpoint objects
   pub epoch_left : epoch_after objects < max_number
 
--- the last checkpoint of the proxy is listed, and is lost: its first field is not read
-pub record IsLost (objects : CloudMap) (lost : Lost) : Type 0 where
-  pub name : SegName
-  pub checkpoint : checkpoint_in objects ≡ Some name
-  pub lost_is : lost ≡ Damaged name (Form 0)
+-- why nothing is recovered, where an object is lost
+abbrev pub refusal_of : Lost → Refusal
+refusal_of (lost.Missing name) = Missing name
+refusal_of (lost.Damaged name damage) = Damaged name damage
+
+-- an object is lost, and so nothing is recovered, whatever the disk is
+abbrev pub IsLost : CloudMap → Lost → Type 0
+IsLost objects lost = (volume size : ℕ) (image : List ℕ) → recovered volume size image objects ≡ Err (refusal_of lost)
 
 -- no checkpoint of the proxy is listed, and no epoch is left
 pub record IsWorn (objects : CloudMap) : Type 0 where
@@ -39,16 +42,14 @@ IsJudged (Err (fault.Foreign at)) objects = IsClaimable objects
 IsJudged (Err (fault.Lost lost)) objects = IsLost objects lost
 IsJudged (Err fault.Worn) objects = IsWorn objects
 
--- This fault of an opening comes of what a site has on its disk and in its cloud: `Foreign` where the image is foreign there, `Lost` of the last
--- checkpoint of the proxy that is listed, and `Worn` where there is no epoch left. The other faults come of the devices and of memory.
+-- This fault of an opening comes of what a site has on its disk and in its cloud: `Foreign` where it is foreign there, `Lost` where recovery is refused
+-- for that object, and `Worn` where there is no epoch left. The other faults come of the devices and of memory.
 abbrev pub IsRefusedBy : (volume size : ℕ) → OpenFault → List ℕ → CloudMap → Type 0
 IsRefusedBy volume size fault.DiskFault image objects = Unit {0}
 IsRefusedBy volume size fault.CloudFault image objects = Unit {0}
 IsRefusedBy volume size fault.Memory image objects = Unit {0}
-IsRefusedBy volume size (fault.Foreign at) image objects =
-    HasNoCheckpoint objects × IsForeignAt volume size (covers_of objects) (cloud_tree volume objects) image at
-IsRefusedBy volume size (fault.Lost (Missing name)) image objects = ⊥
-IsRefusedBy volume size (fault.Lost (Damaged name damage)) image objects = (checkpoint_in objects ≡ Some name) × (damage ≡ Form 0)
+IsRefusedBy volume size (fault.Foreign at) image objects = IsForeignAt volume size image objects at
+IsRefusedBy volume size (fault.Lost lost) image objects = recovered volume size image objects ≡ Err (refusal_of lost)
 IsRefusedBy volume size fault.Worn image objects = HasNoCheckpoint objects × (epoch_after objects ≡ max_number)
 
 -- What an opening that was refused left as it was, from s to t: the disk's image where the journal is what was refused, and the cloud's objects too
@@ -60,36 +61,6 @@ LeavesRefused g s t fault.Worn = (g.image t ≡ g.image s) × (g.objects t ≡ g
 LeavesRefused g s t fault.DiskFault = Unit {0}
 LeavesRefused g s t fault.CloudFault = Unit {0}
 LeavesRefused g s t fault.Memory = Unit {0}
-
--- no fault is one of the journal
-abbrev pub IsOfList : {T : Type 0} → Result T OpenFault → Type 0
-IsOfList (Ok _) = Unit {0}
-IsOfList (Err fault.DiskFault) = ⊥
-IsOfList (Err fault.CloudFault) = Unit {0}
-IsOfList (Err fault.Memory) = Unit {0}
-IsOfList (Err (fault.Foreign at)) = ⊥
-IsOfList (Err (fault.Lost lost)) = Unit {0}
-IsOfList (Err fault.Worn) = Unit {0}
-
--- a call of the cloud failed, or there was no memory
-abbrev pub IsOfPut : {T : Type 0} → Result T OpenFault → Type 0
-IsOfPut (Ok _) = Unit {0}
-IsOfPut (Err fault.DiskFault) = ⊥
-IsOfPut (Err fault.CloudFault) = Unit {0}
-IsOfPut (Err fault.Memory) = Unit {0}
-IsOfPut (Err (fault.Foreign at)) = ⊥
-IsOfPut (Err (fault.Lost lost)) = ⊥
-IsOfPut (Err fault.Worn) = ⊥
-
--- no fault is one of what is listed
-abbrev pub IsOfReading : {T : Type 0} → Result T OpenFault → Type 0
-IsOfReading (Ok _) = Unit {0}
-IsOfReading (Err fault.DiskFault) = Unit {0}
-IsOfReading (Err fault.CloudFault) = Unit {0}
-IsOfReading (Err fault.Memory) = Unit {0}
-IsOfReading (Err (fault.Foreign at)) = Unit {0}
-IsOfReading (Err (fault.Lost lost)) = ⊥
-IsOfReading (Err fault.Worn) = ⊥
 
 -- on a sound site an opening is refused by no object and by no byte of its disk
 abbrev pub IsOfDevices : {T : Type 0} → Result T OpenFault → Type 0

@@ -5,6 +5,7 @@ use Rattle.sky_nfs.specs.History.{are_done, is_done, tree_after_change, tree_aft
 use Rattle.sky_nfs.specs.Tree.{Tree}
 use Rattle.sky_nfs.specs.declared.call.Change.{Change}
 use Rattle.sky_entry.specs.Entry.{entry_bytes}
+use Rattle.sky_outside.specs.CloudMap.{CloudMap}
 use Rattle.sky_outside.specs.Image.{bytes_at}
 use Rattle.sky_outside.specs.Told.{WhereTold}
 use Rattle.sky_outside.specs.declared.storage.Storage.{Ghosts}
@@ -13,7 +14,10 @@ use Rattle.sky_journal.specs.Journal.{JournalView, number_behind}
 use Rattle.sky_journal.specs.Place.{Left}
 use Rattle.sky_journal.specs.Text.{numbered}
 use Rattle.sky_journal.specs.declared.place.Place.{Place}
+use Rattle.sky_sound.specs.Cloud.{HasNoCheckpoint, cloud_tree, covers_of}
 use Rattle.sky_sound.specs.Entries.{IsStorable, change_of, changes_in, entries_above, is_of_change, journal_of}
+use Rattle.sky_sound.specs.Recovery.{recovered}
+use Rattle.sky_sound.specs.Refusal.{Foreign}
 
 -- ---- one entry
 
@@ -74,11 +78,16 @@ pub record FailsAt (start : Tree) (size covers : ℕ) (list : List (ℕ × List 
   pub place : slice_get (places_above covers list (places_of size image)) (length before) ≡ Some at
   pub lies : LiesAt image entry.1 at
 
--- An image is foreign at a place: it is not a journal of the volume there; or it is one, whose entries above covers fail there.
-abbrev pub IsForeignAt : (volume size covers : ℕ) → (start : Tree) → (image : List ℕ) → (at : ℕ) → Type 0
-IsForeignAt volume size covers start image at =
-    (journal_of volume size covers image ≡ Err at)
-    ⊎ ((list : List (ℕ × List ℕ)) × (journal_of volume size covers image ≡ Ok list) × FailsAt start size covers list image at)
+-- A site's disk is a journal of the volume, of whose changes, above those that the cloud covers, the one at a place fails.
+pub record FailsOn (volume size : ℕ) (image : List ℕ) (objects : CloudMap) (at : ℕ) : Type 0 where
+  pub no_checkpoint : HasNoCheckpoint objects
+  pub list : List (ℕ × List ℕ)
+  pub says : journal_of volume size (covers_of objects) image ≡ Ok list
+  pub fails : FailsAt (cloud_tree volume objects) size (covers_of objects) list image at
+
+-- A site is foreign at a place: recovery is refused for that; or it is not, and a change fails there.
+abbrev pub IsForeignAt : (volume size : ℕ) → (image : List ℕ) → (objects : CloudMap) → (at : ℕ) → Type 0
+IsForeignAt volume size image objects at = (recovered volume size image objects ≡ Err (Foreign at)) ⊎ FailsOn volume size image objects at
 
 -- Doing a journal's changes again led from a tree to this one, by changes that were each answered OK: as many as the journal's last number
 -- says. Where the disk tells what it has, they are those of the journal.

@@ -5,12 +5,10 @@ ghost use Rattle.sky_base.specs.Limits.{max_number};
 ghost use Rattle.sky_outside.specs.CloudMap.{after_put, Happened, HappenedOrNot};
 ghost use Rattle.sky_outside.specs.Count.{Counts};
 ghost use Rattle.sky_outside.specs.Moments.{LeavesOnly, SameDisk};
+ghost use Rattle.sky_outside.specs.declared.site.PutFault.TheVariants as put;
 ghost use Rattle.sky_sound.specs.Boot.{boot_bytes, boot_name as name_of_boot};
-ghost use Rattle.sky_recover.specs.Refusals.{IsOfPut};
 ghost use Rattle.sky_recover.specs.Steps.{PutsOrNot};
-ghost use Rattle.sky_recover.specs.declared.fault.OpenFault.TheVariants.{CloudFault};
 
-use crate::fault::OpenFault;
 use sky_base::{Dir, NoMemory, SegName};
 use sky_outside::{Cloud, PutFault};
 use sky_segment::{Builder, SegmentBytes};
@@ -39,26 +37,23 @@ fn boot_object(alloc: Global, epoch: u64) -> Result<SegmentBytes, NoMemory>
 
 /// Claims an epoch: puts its boot object into the cloud.
 ///
-/// `CloudFault` where the put failed, and the object may be there all the same; `Memory` where there was no memory for it.
+/// `Failed` where the put failed, and the object may be there all the same; `Memory` where there was no memory for it.
 pub(crate) fn claim_epoch<C: Cloud>(
     alloc: Global,
     cloud: &mut C,
     epoch: u64,
-) -> Result<(), OpenFault>
+) -> Result<(), PutFault>
     requires { epoch < max_number }
     ensures claimed { OnOk result (Happened (after_put (name_of_boot epoch) (boot_bytes epoch)) (C.objects cloud.old) (C.objects cloud.new)) }
     ensures unclaimed { OnErr result (HappenedOrNot (after_put (name_of_boot epoch) (boot_bytes epoch)) (C.objects cloud.old) (C.objects cloud.new)) }
-    ensures faults { IsOfPut result }
     ensures any_moment { LeavesOnly C.Storage cloud.old cloud.new (PutsOrNot C.Storage (after_put (name_of_boot epoch) (boot_bytes epoch)) cloud.old) }
     ensures beside { SameDisk C.Storage cloud.old cloud.new }
     ensures size { C.bytes_of cloud.new ≡ C.bytes_of cloud.old }
-    ensures cause { Counts (C.cloud_faults cloud.old) (C.cloud_faults cloud.new) (IsErrOf result CloudFault) }
+    ensures cause { Counts (C.cloud_faults cloud.old) (C.cloud_faults cloud.new) (IsErrOf result put.Failed) }
     ensures disk { C.disk_faults cloud.new ≡ C.disk_faults cloud.old }
 {
-    let object = boot_object(alloc, epoch)?;
-    match cloud.put(boot_name(epoch), object.as_slice()) {
-        Ok(()) => Ok(()),
-        Err(PutFault::Failed) => Err(OpenFault::CloudFault),
-        Err(PutFault::Memory) => Err(OpenFault::Memory),
+    match boot_object(alloc, epoch) {
+        Ok(object) => cloud.put(boot_name(epoch), object.as_slice()),
+        Err(NoMemory) => Err(PutFault::Memory),
     }
 }

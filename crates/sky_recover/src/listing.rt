@@ -6,11 +6,13 @@ ghost use Rattle.sky_outside.specs.CloudMap.{listing};
 ghost use Rattle.sky_outside.specs.Count.{Counts};
 ghost use Rattle.sky_outside.specs.Moments.{OnlyLooks};
 ghost use Rattle.sky_outside.specs.Told.{WhereTold};
+ghost use Rattle.sky_outside.specs.declared.site.PutFault.TheVariants as put;
 ghost use Rattle.sky_sound.specs.Cloud.{epoch_after, epoch_behind as epoch_behind_of, is_proxy_check, last_checkpoint, next_epoch};
-ghost use Rattle.sky_recover.specs.Refusals.{IsJudged, IsOfList, IsOfPut};
-ghost use Rattle.sky_recover.specs.declared.fault.OpenFault.TheVariants.{CloudFault};
+ghost use Rattle.sky_recover.specs.Faults.{of_listing};
+ghost use Rattle.sky_recover.specs.Refusals.{IsJudged};
+ghost use Rattle.sky_recover.specs.declared.fault.ListFault.TheVariants.{CloudFault};
 
-use crate::fault::OpenFault;
+use crate::fault::ListFault;
 use sky_base::{Damage, Dir, Lost, SegName};
 use sky_outside::{Cloud, Held, PutFault};
 
@@ -18,19 +20,14 @@ use sky_outside::{Cloud, Held, PutFault};
 const MAX_EPOCH: u64 = 1 << 62;
 
 /// The objects that the cloud holds.
-fn list_cloud<C: Cloud>(cloud: &mut C) -> Result<Vec<Held>, OpenFault>
+fn list_cloud<C: Cloud>(cloud: &mut C) -> Result<Vec<Held>, PutFault>
     ensures listed { IfOk result (λ held. WhereTold (C.objects cloud.old) (λ objects. held.items ≡ listing objects)) }
     ensures runs { IfOk result (λ held. All (λ h. h.name.run < max_number) held.items) }
-    ensures faults { IsOfPut result }
     ensures looks { OnlyLooks C.Storage cloud.old cloud.new }
-    ensures cause { Counts (C.cloud_faults cloud.old) (C.cloud_faults cloud.new) (IsErrOf result CloudFault) }
+    ensures cause { Counts (C.cloud_faults cloud.old) (C.cloud_faults cloud.new) (IsErrOf result put.Failed) }
     ensures disk { C.disk_faults cloud.new ≡ C.disk_faults cloud.old }
 {
-    match cloud.list() {
-        Ok(held) => Ok(held),
-        Err(PutFault::Failed) => Err(OpenFault::CloudFault),
-        Err(PutFault::Memory) => Err(OpenFault::Memory),
-    }
+    cloud.list()
 }
 
 /// The epoch behind that of an object of the proxy; the first epoch, whatever the cleaner has.
@@ -85,26 +82,25 @@ fn checkpoint_of(held: &[Held]) -> Option<SegName>
 ///
 /// `CloudFault` where the cloud failed, `Memory` where there was no memory for the list. Checkpoints are not read yet: where the cloud
 /// lists one of the proxy, it is `Lost`, the greatest as damaged in its first field. `Worn` exactly where the epoch would be 2^62.
-pub(crate) fn find_epoch<C: Cloud>(cloud: &mut C) -> Result<u64, OpenFault>
+pub(crate) fn find_epoch<C: Cloud>(cloud: &mut C) -> Result<u64, ListFault>
     ensures epoch { IfOk result (λ epoch. WhereTold (C.objects cloud.old) (λ objects. epoch ≡ epoch_after objects)) }
     ensures least { IfOk result (λ epoch. 1 ≤ epoch) }
     ensures below { IfOk result (λ epoch. epoch < max_number) }
-    ensures judged { WhereTold (C.objects cloud.old) (IsJudged result) }
-    ensures faults { IsOfList result }
+    ensures judged { WhereTold (C.objects cloud.old) (IsJudged (of_listing result)) }
     ensures looks { OnlyLooks C.Storage cloud.old cloud.new }
     ensures cause { Counts (C.cloud_faults cloud.old) (C.cloud_faults cloud.new) (IsErrOf result CloudFault) }
     ensures disk { C.disk_faults cloud.new ≡ C.disk_faults cloud.old }
 {
     let held = list_cloud(cloud)?;
     if let Some(name) = checkpoint_of(&held) {
-        return Err(OpenFault::Lost(Lost::Damaged {
+        return Err(ListFault::Lost(Lost::Damaged {
             name,
             damage: Damage::Form { at: 0 },
         }));
     }
     let epoch = epoch_in(&held);
     if epoch == MAX_EPOCH {
-        return Err(OpenFault::Worn);
+        return Err(ListFault::Worn);
     }
     Ok(epoch)
 }

@@ -5,22 +5,23 @@ ghost use Rattle.sky_base.specs.Limits.{max_journal_area, max_number, max_volume
 ghost use Rattle.sky_nfs.specs.Tree.{empty_tree};
 ghost use Rattle.sky_journal.specs.Journal.{IsJournal, StandsOn};
 ghost use Rattle.sky_outside.specs.CloudMap.{after_put, Happened, HappenedOrNot};
-ghost use Rattle.sky_outside.specs.Count.{Counts};
+ghost use Rattle.sky_outside.specs.Count.{Counts, Rose};
 ghost use Rattle.sky_outside.specs.Moments.{LeavesOnly, NothingPending, SameCloud};
 ghost use Rattle.sky_outside.specs.Told.{BothTold, WhereTold};
 ghost use Rattle.sky_sound.specs.Boot.{boot_bytes, boot_name, claimed};
 ghost use Rattle.sky_sound.specs.Entries.{journal_of};
 ghost use Rattle.sky_sound.specs.Recovery.{IsSound};
-ghost use Rattle.sky_recover.specs.Faults.{IsOfJournal};
 ghost use Rattle.sky_recover.specs.Opening.{IsOpened, LeavesFound, WhereBothTold};
-ghost use Rattle.sky_recover.specs.Refusals.{IsJudged, IsOfDevices, IsOfReading, IsRefusedBy, LeavesRefused};
+ghost use Rattle.sky_recover.specs.Refusals.{IsJudged, IsOfDevices, IsRefusedBy, LeavesRefused};
 ghost use Rattle.sky_recover.specs.Replaying.{FailsAt};
 ghost use Rattle.sky_recover.specs.Settling.{IsRead};
 ghost use Rattle.sky_recover.specs.Steps.{IsContinued, KeepsEntries, PutsOrNot};
-ghost use Rattle.sky_recover.specs.declared.fault.OpenFault.TheVariants.{CloudFault, DiskFault, Foreign};
+ghost use Rattle.sky_recover.specs.declared.fault.ClaimFault.TheVariants as claim;
+ghost use Rattle.sky_recover.specs.declared.fault.OpenFault.TheVariants.{CloudFault, DiskFault};
+ghost use Rattle.sky_recover.specs.declared.fault.ReplayFault.TheVariants as replay;
 
 use crate::boot::claim_epoch;
-use crate::fault::OpenFault;
+use crate::fault::{ClaimFault, OpenFault, ReplayFault};
 use crate::listing::find_epoch;
 use crate::opened::Opened;
 use crate::reading::read_changes;
@@ -46,7 +47,7 @@ fn read_and_claim<S: Site>(
     volume: u64,
     area: u64,
     epoch: u64,
-) -> Result<Journal, OpenFault>
+) -> Result<Journal, ClaimFault>
     requires least { min_journal_area ≤ area }
     requires most { area ≤ max_journal_area }
     requires epoch { epoch < max_number }
@@ -58,16 +59,15 @@ fn read_and_claim<S: Site>(
     ensures size { IfOk result (λ j. j.size ≡ area) }
     ensures pending { IfOk result (λ j. j.pending ≡ []) }
     ensures up { IfOk result (λ j. j.down ≡ false) }
-    ensures foreign { (at : ℕ) → IsErrOf result (Foreign at) → WhereTold (S.image site.old) (λ image. journal_of volume area 0 image ≡ Err at) }
+    ensures foreign { (at : ℕ) → IsErrOf result (claim.Foreign at) → WhereTold (S.image site.old) (λ image. journal_of volume area 0 image ≡ Err at) }
     ensures image { S.image site.new ≡ S.image site.old }
     ensures claimed { OnOk result (Happened (after_put (boot_name epoch) (boot_bytes epoch)) (S.objects site.old) (S.objects site.new)) }
     ensures unclaimed { OnErr result (HappenedOrNot (after_put (boot_name epoch) (boot_bytes epoch)) (S.objects site.old) (S.objects site.new)) }
     ensures unread { WhereTold (S.image site.old) (λ image. (at : ℕ) → journal_of volume area 0 image ≡ Err at → S.objects site.new ≡ S.objects site.old) }
     ensures any_moment { LeavesOnly S.Storage site.old site.new (PutsOrNot S.Storage (after_put (boot_name epoch) (boot_bytes epoch)) site.old) }
-    ensures faults { IsOfReading result }
     ensures bytes { S.bytes_of site.new ≡ S.bytes_of site.old }
-    ensures disk_cause { Counts (S.disk_faults site.old) (S.disk_faults site.new) (IsErrOf result DiskFault) }
-    ensures cloud_cause { Counts (S.cloud_faults site.old) (S.cloud_faults site.new) (IsErrOf result CloudFault) }
+    ensures disk_cause { Counts (S.disk_faults site.old) (S.disk_faults site.new) (IsErrOf result claim.DiskFault) }
+    ensures cloud_cause { Counts (S.cloud_faults site.old) (S.cloud_faults site.new) (IsErrOf result claim.CloudFault) }
 {
     let journal = read_changes(alloc, site, volume, area, COVERS)?;
     journal.facts();
@@ -83,7 +83,7 @@ fn continue_from<D: Disk>(
     disk: &mut D,
     journal: Journal,
     volume: u64,
-) -> Result<DurableTree, OpenFault>
+) -> Result<DurableTree, ReplayFault>
     requires volume { volume ≤ max_volume }
     requires pending { journal.pending ≡ [] }
     requires up { journal.down ≡ false }
@@ -91,15 +91,14 @@ fn continue_from<D: Disk>(
     requires read { WhereTold (D.image disk.old) (IsRead journal 0) }
     ensures continued { IfOk result (IsContinued D.Storage volume journal disk.old disk.new) }
     ensures is { IfOk result (λ d. IsJournal d.journal) }
-    ensures foreign { (at : ℕ) → IsErrOf result (Foreign at) → WhereTold (D.image disk.old) (λ image. (list : List (ℕ × List ℕ))
+    ensures foreign { (at : ℕ) → IsErrOf result (replay.Foreign at) → WhereTold (D.image disk.old) (λ image. (list : List (ℕ × List ℕ))
         → journal_of journal.volume journal.size 0 image ≡ Ok list → FailsAt (empty_tree volume) journal.size 0 list image at) }
-    ensures kept { (at : ℕ) → IsErrOf result (Foreign at) → D.image disk.new ≡ D.image disk.old }
+    ensures kept { (at : ℕ) → IsErrOf result (replay.Foreign at) → D.image disk.new ≡ D.image disk.old }
     ensures any_moment { KeepsEntries D.Storage journal.volume journal.size disk.old disk.new }
     ensures tells { OnOk result (BothTold (λ old new. Unit {0}) (D.image disk.old) (D.image disk.new)) }
-    ensures faults { IsOfJournal result }
     ensures beside { SameCloud D.Storage disk.old disk.new }
     ensures bytes { D.bytes_of disk.new ≡ D.bytes_of disk.old }
-    ensures cause { Counts (D.disk_faults disk.old) (D.disk_faults disk.new) (IsErrOf result DiskFault) }
+    ensures cause { Counts (D.disk_faults disk.old) (D.disk_faults disk.new) (IsErrOf result replay.DiskFault) }
     ensures cloud { D.cloud_faults disk.new ≡ D.cloud_faults disk.old }
 {
     let mut tree = Tree::empty(alloc, volume)?;
@@ -149,7 +148,10 @@ pub fn recover<S: Site>(
     ensures sound { WhereBothTold S.Storage site.old (λ image objects.
         IsSound settings.now.volume settings.now.journal_area image objects → IsOfDevices result) }
     ensures disk_cause { Counts (S.disk_faults site.old) (S.disk_faults site.new) (IsErrOf result DiskFault) }
-    ensures cloud_cause { Counts (S.cloud_faults site.old) (S.cloud_faults site.new) (IsErrOf result CloudFault) }
+    ensures cloud_grows { S.cloud_faults site.old ≤ S.cloud_faults site.new }
+    ensures cloud_cause { IsErrOf result CloudFault → Rose (S.cloud_faults site.old) (S.cloud_faults site.new) }
+    // This goes as soon as a step that ends well can raise the count.
+    ensures cloud_quiet { (IsErrOf result CloudFault → ⊥) → S.cloud_faults site.new ≡ S.cloud_faults site.old }
 
     ensures tells { OnOk result (BothTold (λ old new. Unit {0}) (S.image site.old) (S.image site.new)) }
     ensures size { S.bytes_of site.new ≡ S.bytes_of site.old }

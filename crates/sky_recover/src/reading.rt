@@ -5,14 +5,12 @@ ghost use Rattle.sky_base.specs.Limits.{max_journal_area, min_journal_area};
 ghost use Rattle.sky_outside.specs.Count.{Counts};
 ghost use Rattle.sky_outside.specs.Moments.{OnlyLooks};
 ghost use Rattle.sky_outside.specs.Told.{WhereTold};
+ghost use Rattle.sky_journal.specs.declared.fault.JournalFault.TheVariants.{DiskFault, Foreign};
 ghost use Rattle.sky_sound.specs.Entries.{journal_of};
-ghost use Rattle.sky_recover.specs.Faults.{IsOfJournal};
 ghost use Rattle.sky_recover.specs.Settling.{IsRead};
-ghost use Rattle.sky_recover.specs.declared.fault.OpenFault.TheVariants.{DiskFault, Foreign};
 
-use crate::fault::OpenFault;
 use crate::grammar::ChangeGrammar;
-use sky_journal::{Journal, read_journal};
+use sky_journal::{Journal, JournalFault, read_journal};
 use sky_outside::Disk;
 use std::alloc::Global;
 
@@ -27,12 +25,11 @@ pub(crate) fn read_changes<D: Disk>(
     volume: u64,
     area: u64,
     covers: u64,
-) -> Result<Journal, OpenFault>
+) -> Result<Journal, JournalFault>
     requires least { min_journal_area ≤ area }
     requires most { area ≤ max_journal_area }
     ensures read { IfOk result (λ j. WhereTold (D.image disk.old) (IsRead j covers)) }
     ensures foreign { (at : ℕ) → IsErrOf result (Foreign at) → WhereTold (D.image disk.old) (λ image. journal_of volume area covers image ≡ Err at) }
-    ensures faults { IsOfJournal result }
     ensures volume { IfOk result (λ j. j.volume ≡ volume) }
     ensures size { IfOk result (λ j. j.size ≡ area) }
     ensures disk { IfOk result (λ j. j.disk ≡ D.bytes_of disk.old) }
@@ -43,8 +40,5 @@ pub(crate) fn read_changes<D: Disk>(
     ensures cloud { D.cloud_faults disk.new ≡ D.cloud_faults disk.old }
 {
     let mut grammar = ChangeGrammar;
-    match read_journal(alloc, disk, &mut grammar, volume, area, covers) {
-        Ok(journal) => Ok(journal),
-        Err(fault) => Err(fault.into()),
-    }
+    read_journal(alloc, disk, &mut grammar, volume, area, covers)
 }

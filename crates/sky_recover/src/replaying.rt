@@ -10,12 +10,12 @@ ghost use Rattle.sky_outside.specs.Moments.{OnlyLooks};
 ghost use Rattle.sky_outside.specs.Told.{WhereTold};
 ghost use Rattle.sky_journal.specs.Place.{Left, start_in};
 ghost use Rattle.sky_sound.specs.Entries.{is_of_change, IsStorable, journal_of};
-ghost use Rattle.sky_recover.specs.Faults.{IsOfEntry, IsOfJournal};
 ghost use Rattle.sky_recover.specs.Replaying.{DoesNext, FailsAt, FailsNext, IsFirstOf, IsRedone, IsRefused, IsReplayed, IsWhose};
 ghost use Rattle.sky_recover.specs.Settling.{IsRead};
-ghost use Rattle.sky_recover.specs.declared.fault.OpenFault.TheVariants.{DiskFault, Foreign};
+ghost use Rattle.sky_recover.specs.declared.fault.ChangeFault.TheVariants as undone;
+ghost use Rattle.sky_recover.specs.declared.fault.ReplayFault.TheVariants.{DiskFault, Foreign};
 
-use crate::fault::OpenFault;
+use crate::fault::{ChangeFault, ReplayFault};
 use sky_entry::{EntryFault, read_entry};
 use sky_journal::{Journal, Place};
 use sky_nfs::{Answer, Change};
@@ -45,45 +45,42 @@ fn is_ok(answer: &Answer) -> bool
 }
 
 /// The change of an entry that lies at this place of the disk.
-fn change_at(alloc: Global, entry: &[u8], at: u64) -> Result<Change, OpenFault>
+fn change_at(alloc: Global, entry: &[u8], at: u64) -> Result<Change, ChangeFault>
     ensures whose { IfOk result (λ change. IsTrue (is_of_change entry.now) → IsWhose entry.now change) }
     ensures changes { IfOk result (λ change. IsTrue (is_change change.call)) }
     ensures storable { IfOk result IsStorable }
-    ensures foreign { (place : ℕ) → IsErrOf result (Foreign place) → (place ≡ at) × (is_of_change entry.now ≡ false) }
-    ensures faults { IsOfEntry result }
+    ensures foreign { (place : ℕ) → IsErrOf result (undone.Foreign place) → (place ≡ at) × (is_of_change entry.now ≡ false) }
 {
     match read_entry(alloc, entry) {
         Ok((change, _)) => Ok(change),
-        Err(EntryFault::Bad) => Err(OpenFault::Foreign { at }),
-        Err(EntryFault::Memory) => Err(OpenFault::Memory),
+        Err(EntryFault::Bad) => Err(ChangeFault::Foreign { at }),
+        Err(EntryFault::Memory) => Err(ChangeFault::Memory),
     }
 }
 
 /// Does a change, whose entry lies at this place of the disk.
-fn redo_change(tree: &mut Tree, change: &Change, at: u64) -> Result<(), OpenFault>
+fn redo_change(tree: &mut Tree, change: &Change, at: u64) -> Result<(), ChangeFault>
     requires changes { IsTrue (is_change change.now.call) }
     ensures redone { OnOk result (IsRedone tree.old change.now tree.new) }
-    ensures foreign { (place : ℕ) → IsErrOf result (Foreign place) → (place ≡ at) × (is_done tree.old change.now ≡ false) }
-    ensures faults { IsOfEntry result }
+    ensures foreign { (place : ℕ) → IsErrOf result (undone.Foreign place) → (place ≡ at) × (is_done tree.old change.now ≡ false) }
 {
     match tree.apply(EPOCH, &change.cred, &change.call, change.moment) {
         Ok(answer) => {
             if is_ok(&answer) {
                 Ok(())
             } else {
-                Err(OpenFault::Foreign { at })
+                Err(ChangeFault::Foreign { at })
             }
         }
-        Err(_) => Err(OpenFault::Memory),
+        Err(_) => Err(ChangeFault::Memory),
     }
 }
 
 /// Does the change of an entry that lies at this place of the disk.
-fn redo(alloc: Global, tree: &mut Tree, entry: &[u8], at: u64) -> Result<(), OpenFault>
+fn redo(alloc: Global, tree: &mut Tree, entry: &[u8], at: u64) -> Result<(), ChangeFault>
     ensures redone { OnOk result ((change : Change) × IsRedone tree.old change tree.new × IsStorable change
         × (IsTrue (is_of_change entry.now) → IsWhose entry.now change)) }
-    ensures foreign { (place : ℕ) → IsErrOf result (Foreign place) → (place ≡ at) × (IsTrue (is_of_change entry.now) → IsRefused tree.old entry.now) }
-    ensures faults { IsOfEntry result }
+    ensures foreign { (place : ℕ) → IsErrOf result (undone.Foreign place) → (place ≡ at) × (IsTrue (is_of_change entry.now) → IsRefused tree.old entry.now) }
 {
     let change = change_at(alloc, entry, at)?;
     redo_change(tree, &change, at)
@@ -143,20 +140,19 @@ fn replay_next<D: Disk>(
     place: &mut Place,
     entry: &mut Vec<u8>,
     tree: &mut Tree,
-) -> Result<(), OpenFault>
+) -> Result<(), ReplayFault>
     requires { D.bytes_of disk.old ≡ journal.now.disk }
     ensures redone { OnOk result ((change : Change) × IsRedone tree.old change tree.new × IsStorable change
         × WhereTold (D.image disk.old) (DoesNext journal.now place.old place.new change)) }
     ensures foreign { (at : ℕ) → IsErrOf result (Foreign at) → WhereTold (D.image disk.old) (FailsNext journal.now place.old tree.old at) }
-    ensures faults { IsOfJournal result }
     ensures looks { OnlyLooks D.Storage disk.old disk.new }
     ensures cause { Counts (D.disk_faults disk.old) (D.disk_faults disk.new) (IsErrOf result DiskFault) }
     ensures cloud { D.cloud_faults disk.new ≡ D.cloud_faults disk.old }
 {
     let at = entry_position(journal, *place);
     match journal.next_entry(disk, place, entry) {
-        Ok(Some(_)) => redo(alloc, tree, entry.as_slice(), at),
-        Ok(None) => Err(OpenFault::Foreign { at }),
+        Ok(Some(_)) => Ok(redo(alloc, tree, entry.as_slice(), at)?),
+        Ok(None) => Err(ReplayFault::Foreign { at }),
         Err(fault) => Err(fault.into()),
     }
 }
@@ -171,13 +167,12 @@ pub(crate) fn replay<D: Disk>(
     journal: &Journal,
     disk: &mut D,
     tree: &mut Tree,
-) -> Result<(), OpenFault>
+) -> Result<(), ReplayFault>
     requires size { D.bytes_of disk.old ≡ journal.now.disk }
     requires read { WhereTold (D.image disk.old) (IsRead journal.now 0) }
     ensures replayed { OnOk result (IsReplayed D.Storage journal.now disk.old tree.old tree.new) }
     ensures foreign { (at : ℕ) → IsErrOf result (Foreign at) → WhereTold (D.image disk.old) (λ image. (list : List (ℕ × List ℕ))
         → journal_of journal.now.volume journal.now.size 0 image ≡ Ok list → FailsAt tree.old journal.now.size 0 list image at) }
-    ensures faults { IsOfJournal result }
     ensures looks { OnlyLooks D.Storage disk.old disk.new }
     ensures cause { Counts (D.disk_faults disk.old) (D.disk_faults disk.new) (IsErrOf result DiskFault) }
     ensures cloud { D.cloud_faults disk.new ≡ D.cloud_faults disk.old }

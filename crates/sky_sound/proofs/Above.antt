@@ -1,15 +1,19 @@
 -- The entries above a number. Crates above cite this.
 use Rattle.std.specs.Prelude.{nat_lt, IsTrue, is_some}
-use Rattle.std.proofs.Common.{◌≡◌, ⊎_elim, ℕ, ◌+◌, ◌<◌, ◌≤◌, true, false, List, [], ◌∷◌, ◌++◌, length, Option, Some, None, Ok, refl, sym, ap, ◌∙◌, subst, arith}
+use Rattle.std.proofs.Common.{◌≡◌, ⊎_elim, ℕ, ◌+◌, ◌<◌, ◌≤◌, true, false, List, [], ◌∷◌, ◌++◌, length, Option, Some, None, Result, Ok, Err, refl, sym, ap, ◌∙◌, subst, arith}
 use Rattle.std.proofs.lemmas.Bool.{lt-ltb, le-ltb, cases_lt}
+use Rattle.std.specs.Result.{result_map_both}
+use Rattle.sky_base.specs.declared.object.SegName.{SegName}
+use Rattle.sky_base.specs.declared.place.Damage.TheVariants.{Form}
 use Rattle.sky_nfs.specs.declared.call.Change.{Change}
 use Rattle.sky_nfs.specs.History.{History, history_length, last_tree}
 use Rattle.sky_outside.specs.CloudMap.{CloudMap}
-use Rattle.sky_journal.specs.Text.{Read, ◌>>=◌, numbered}
-use Rattle.sky_sound.specs.Cloud.{covers_of, cloud_tree}
+use Rattle.sky_journal.specs.Text.{Read, numbered}
+use Rattle.sky_sound.specs.Cloud.{HasNoCheckpoint, checkpoint_in, covers_of, cloud_tree}
 use Rattle.sky_sound.specs.Entries.{change_of, is_of_change, journal_of, entries_above, changes_in, last_number}
-use Rattle.sky_sound.specs.Recovery.{Recovered, found_from, history_from, recovered, history_of}
-use Rattle.sky_sound.proofs.Texts.{AreOfGrammar, text_of, bound, ok_same}
+use Rattle.sky_sound.specs.Recovery.{IsSound, Recovered, found_from, history_from, recovered, history_of, unless_checkpoint}
+use Rattle.sky_sound.specs.Refusal.{Refusal, Damaged, Foreign}
+use Rattle.sky_sound.proofs.Texts.{AreOfGrammar, text_of}
 
 -- an entry above the number, and one that is not
 pub above_yes : (covers : ℕ) (e : ℕ × List ℕ) (more : List (ℕ × List ℕ)) → covers < e.0 → entries_above covers (e ∷ more) ≡ e ∷ entries_above covers more
@@ -104,36 +108,63 @@ number_counts volume size covers image list e =
 
 -- ---- what is recovered
 
-pub recovered_is : (volume size : ℕ) (image : List ℕ) (objects : CloudMap) (list : List (ℕ × List ℕ)) → journal_of volume size (covers_of objects) image ≡ Ok list
-    → recovered volume size image objects ≡ Ok (found_from (covers_of objects) (cloud_tree volume objects) list)
-unfolding recovered
-recovered_is volume size image objects list e =
-    ap (λ (r : Read (List (ℕ × List ℕ))). r >>= λ entries. Ok (found_from (covers_of objects) (cloud_tree volume objects) entries)) e
+-- what is made of the entries that are read, where no checkpoint is listed
+made_from : {A : Type 0} (f : List (ℕ × List ℕ) → A) (o : Option SegName) (r : Read (List (ℕ × List ℕ))) (x : A) → unless_checkpoint o (result_map_both f Foreign r) ≡ Ok x
+    → (o ≡ None) × ((list : List (ℕ × List ℕ)) × (r ≡ Ok list) × (f list ≡ x))
+made_from f None (Ok list) x e = (refl, (list, refl, cc))
+made_from f None (Err at) x e = absurd cc
+made_from f (Some name) r x e = absurd cc
 
-pub history_is : (volume size : ℕ) (image : List ℕ) (objects : CloudMap) (list : List (ℕ × List ℕ)) → journal_of volume size (covers_of objects) image ≡ Ok list
-    → history_of volume size image objects ≡ Ok (history_from (covers_of objects) (cloud_tree volume objects) list)
-unfolding history_of
-history_is volume size image objects list e =
-    ap (λ (r : Read (List (ℕ × List ℕ))). r >>= λ entries. Ok (history_from (covers_of objects) (cloud_tree volume objects) entries)) e
+module _ (volume size : ℕ) (image : List ℕ) (objects : CloudMap) where
+  -- by the journal's entries, where no checkpoint is listed
+  pub recovered_is : (list : List (ℕ × List ℕ)) → HasNoCheckpoint objects → journal_of volume size (covers_of objects) image ≡ Ok list
+      → recovered volume size image objects ≡ Ok (found_from (covers_of objects) (cloud_tree volume objects) list)
+  unfolding recovered
+  recovered_is list none says = rw (none, says) refl
 
--- the entries of which a history is
-pub history_from_entries : (volume size : ℕ) (image : List ℕ) (objects : CloudMap) (history : History) → history_of volume size image objects ≡ Ok history
-    → (list : List (ℕ × List ℕ)) × (journal_of volume size (covers_of objects) image ≡ Ok list) × (history_from (covers_of objects) (cloud_tree volume objects) list ≡ history)
-unfolding history_of
-history_from_entries volume size image objects history e =
-    let first = bound (journal_of volume size (covers_of objects) image) (λ entries. Ok (history_from (covers_of objects) (cloud_tree volume objects) entries)) history e in
-    let made : History = history_from (covers_of objects) (cloud_tree volume objects) first.0 in
-    (first.0, first.1, ok_same made history (Ok made) refl first.2)
+  pub history_is : (list : List (ℕ × List ℕ)) → HasNoCheckpoint objects → journal_of volume size (covers_of objects) image ≡ Ok list
+      → history_of volume size image objects ≡ Ok (history_from (covers_of objects) (cloud_tree volume objects) list)
+  unfolding history_of
+  history_is list none says = rw (none, says) refl
 
--- it is the history's length and its last tree
-pub history_recovered : (volume size : ℕ) (image : List ℕ) (objects : CloudMap) (history : History) → history_of volume size image objects ≡ Ok history
-    → recovered volume size image objects ≡ Ok (record { length = history_length history; tree = last_tree history })
-history_recovered volume size image objects history e =
-    let found = history_from_entries volume size image objects history e in
-    let list = found.0 in
-    let covers = covers_of objects in
-    let h : History = history_from covers (cloud_tree volume objects) list in
-    let length_is : last_number covers (entries_above covers list) ≡ history_length h = number_counts volume size covers image list found.1 in
-    recovered_is volume size image objects list found.1
-    ∙ ap (λ (n : ℕ). let r : Read Recovered = Ok (record { length = n; tree = last_tree h }) in r) length_is
-    ∙ ap (λ (k : History). let r : Read Recovered = Ok (record { length = history_length k; tree = last_tree k }) in r) found.2
+  -- the entries of which a history is
+  pub history_from_entries : (history : History) → history_of volume size image objects ≡ Ok history
+      → (list : List (ℕ × List ℕ)) × (journal_of volume size (covers_of objects) image ≡ Ok list) × (history_from (covers_of objects) (cloud_tree volume objects) list ≡ history)
+  unfolding history_of
+  history_from_entries history e =
+      let made = made_from (history_from (covers_of objects) (cloud_tree volume objects)) (checkpoint_in objects) (journal_of volume size (covers_of objects) image) history e in made.1
+
+  -- it has no checkpoint
+  pub history_unchecked : (history : History) → history_of volume size image objects ≡ Ok history → HasNoCheckpoint objects
+  unfolding history_of
+  history_unchecked history e =
+      (made_from (history_from (covers_of objects) (cloud_tree volume objects)) (checkpoint_in objects) (journal_of volume size (covers_of objects) image) history e).0
+
+  -- nor has a sound site
+  pub sound_has_no_checkpoint : IsSound volume size image objects → HasNoCheckpoint objects
+  sound_has_no_checkpoint is = history_unchecked is.history is.stands_for
+
+  -- it is the history's length and its last tree
+  pub history_recovered : (history : History) → history_of volume size image objects ≡ Ok history
+      → recovered volume size image objects ≡ Ok (record { length = history_length history; tree = last_tree history })
+  history_recovered history e =
+      let found = history_from_entries history e in
+      let list = found.0 in
+      let covers = covers_of objects in
+      let h : History = history_from covers (cloud_tree volume objects) list in
+      let length_is : last_number covers (entries_above covers list) ≡ history_length h = number_counts volume size covers image list found.1 in
+      recovered_is list (history_unchecked history e) found.1
+      ∙ ap (λ (n : ℕ). let r : Result Recovered Refusal = Ok (record { length = n; tree = last_tree h }) in r) length_is
+      ∙ ap (λ (k : History). let r : Result Recovered Refusal = Ok (record { length = history_length k; tree = last_tree k }) in r) found.2
+
+  -- ---- why nothing is
+
+  -- the disk is foreign
+  pub foreign_refused : (at : ℕ) → HasNoCheckpoint objects → journal_of volume size (covers_of objects) image ≡ Err at → recovered volume size image objects ≡ Err (Foreign at)
+  unfolding recovered
+  foreign_refused at none says = rw (none, says) refl
+
+  -- a checkpoint is listed
+  pub checkpoint_refused : (name : SegName) → checkpoint_in objects ≡ Some name → recovered volume size image objects ≡ Err (Damaged name (Form 0))
+  unfolding recovered
+  checkpoint_refused name is = rw is refl

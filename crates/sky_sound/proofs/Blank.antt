@@ -66,14 +66,13 @@ empty_unchecked = let nothing : CloudMap = empty in none_listed (entries nothing
 pub blank_recovered : (volume size bytes : ℕ) → 2 * size ≤ bytes → recovered volume size (replicate bytes 0) empty ≡ Ok (record { length = 0; tree = empty_tree volume })
 blank_recovered volume size bytes fits =
     let nothing : CloudMap = empty in
-    recovered_is volume size (replicate bytes 0) nothing [] (blank is_of_change volume size (covers_of nothing) bytes fits)
+    recovered_is volume size (replicate bytes 0) nothing [] empty_unchecked (blank is_of_change volume size (covers_of nothing) bytes fits)
 
 pub blank_sound : (volume size bytes : ℕ) → IsValidTree (empty_tree volume) → 2 * size ≤ bytes → IsSound volume size (replicate bytes 0) empty
 blank_sound volume size bytes valid fits =
     let nothing : CloudMap = empty in
     record {
-      no_checkpoint = empty_unchecked;
       history = history_from (covers_of nothing) (cloud_tree volume nothing) [];
-      stands_for = history_is volume size (replicate bytes 0) nothing [] (blank is_of_change volume size (covers_of nothing) bytes fits);
+      stands_for = history_is volume size (replicate bytes 0) nothing [] empty_unchecked (blank is_of_change volume size (covers_of nothing) bytes fits);
       legal = record { valid = valid; done = refl };
     }

@@ -52,17 +52,16 @@ checkpoint_in-claimed objects = checkpoint_after (boot_name (epoch_after objects
 -- what recovery finds stays
 pub recovered-claimed : (volume size : ℕ) (image : List ℕ) (objects : CloudMap) → recovered volume size image (claimed objects) ≡ recovered volume size image objects
 unfolding recovered
-recovered-claimed volume size image objects = refl
+recovered-claimed volume size image objects = rw (checkpoint_in-claimed objects) refl
 
 pub history_of-claimed : (volume size : ℕ) (image : List ℕ) (objects : CloudMap) → history_of volume size image (claimed objects) ≡ history_of volume size image objects
 unfolding history_of
-history_of-claimed volume size image objects = refl
+history_of-claimed volume size image objects = rw (checkpoint_in-claimed objects) refl
 
 -- so does a sound site stay sound
 pub sound-claimed : (volume size : ℕ) (image : List ℕ) (objects : CloudMap) → IsSound volume size image objects → FindsSame volume size image objects image (claimed objects)
 sound-claimed volume size image objects is = record {
   sound = record {
-    no_checkpoint = checkpoint_in-claimed objects ∙ is.no_checkpoint;
     history = is.history;
     stands_for = history_of-claimed volume size image objects ∙ is.stands_for;
     legal = is.legal;

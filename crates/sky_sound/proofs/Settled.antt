@@ -1,18 +1,24 @@
 -- Laws of how an opening leaves the areas of a journal. Crates above cite this.
 use Rattle.std.specs.Prelude.{max, nat_lt, IfSome, IsSome, if◌then◌else◌}
+use Rattle.std.specs.Option.{option_map}
 use Rattle.std.proofs.Common.{◌≡◌, ⊎_elim, ℕ, ◌+◌, ◌<◌, ◌≤◌, Bool, true, false, Option, Some, None, List, [], length, refl, sym, ap, subst, ◌∙◌, arith}
 use Rattle.std.proofs.lemmas.Bool.{cases_lt, lt-ltb, le-ltb}
 use Rattle.sky_journal.specs.Journal.{JournalView, AreInOrder, IsJournal, SameButSpare, StandsFor, base_in, first_base, new_area, number_behind}
 use Rattle.sky_journal.specs.Laid.{IsLaid}
 use Rattle.sky_journal.specs.declared.open_area.OpenArea.{OpenArea}
-use Rattle.sky_sound.specs.Settled.{settled, unless_covered}
+use Rattle.sky_sound.specs.Kept.{area_state, journal_state, left_open}
+use Rattle.sky_sound.specs.Settled.{has_above, settled, settled_newer, settled_older, unless_covered}
 use Rattle.sky_sound.proofs.Once.{journal_once}
 
 -- ---- one area
 
+-- the number of an area's last entry
+abbrev last_of : OpenArea → ℕ
+last_of a = a.last
+
 module _ (covers : ℕ) where
   -- what is left has an entry above covers
-  unless_above : (o : Option OpenArea) → IfSome (unless_covered covers o) (λ a. covers < a.last)
+  unless_above : (o : Option OpenArea) → IfSome (unless_covered last_of covers o) (λ a. covers < a.last)
   unless_above None = tt
   unless_above (Some a) =
       ⊎_elim
@@ -21,29 +27,38 @@ module _ (covers : ℕ) where
       (cases_lt covers a.last)
 
   -- an area that has one stays
-  pub unless_stays : (o : Option OpenArea) → IfSome o (λ a. covers < a.last) → unless_covered covers o ≡ o
+  pub unless_stays : (o : Option OpenArea) → IfSome o (λ a. covers < a.last) → unless_covered last_of covers o ≡ o
   unless_stays None lt = refl
   unless_stays (Some a) lt = ap (λ (b : Bool). let o : Option OpenArea = if b then Some a else None in o) (lt-ltb covers a.last lt)
 
   -- one that has none does not
-  pub unless_goes : (o : Option OpenArea) → number_behind o 0 ≤ covers → unless_covered covers o ≡ None
+  pub unless_goes : (o : Option OpenArea) → number_behind o 0 ≤ covers → unless_covered last_of covers o ≡ None
   unless_goes None le = refl
   unless_goes (Some a) le = let low : a.last ≤ covers = omega (arith, le) in ap (λ (b : Bool). let o : Option OpenArea = if b then Some a else None in o) (le-ltb covers a.last low)
+
+  -- whether it has one
+  above_is : (o : Option OpenArea) → covers < number_behind o 0 → has_above last_of covers o ≡ true
+  above_is None lt = absurd (omega (arith, lt))
+  above_is (Some a) lt = lt-ltb covers a.last (omega (arith, lt))
+
+  above_not : (o : Option OpenArea) → number_behind o 0 ≤ covers → has_above last_of covers o ≡ false
+  above_not None le = refl
+  above_not (Some a) le = le-ltb covers a.last (omega (arith, le))
 
 -- ---- the areas of a journal
 
 module _ (covers : ℕ) (j : JournalView) where
   -- an entry is above covers
-  pub settled_goes_on : covers < number_behind j.newer 0 → ((settled covers j).older ≡ unless_covered covers j.older) × ((settled covers j).newer ≡ j.newer)
+  pub settled_goes_on : covers < number_behind j.newer 0 → ((settled covers j).older ≡ unless_covered last_of covers j.older) × ((settled covers j).newer ≡ j.newer)
   settled_goes_on lt =
-      let is : nat_lt covers (number_behind j.newer 0) ≡ true = lt-ltb covers (number_behind j.newer 0) lt in
-      (ap (λ (b : Bool). if b then unless_covered covers j.older else None) is, ap (λ (b : Bool). if b then j.newer else Some (new_area 0 covers)) is)
+      let is : has_above last_of covers j.newer ≡ true = above_is covers j.newer lt in
+      (ap (λ (b : Bool). if b then unless_covered last_of covers j.older else None) is, ap (λ (b : Bool). if b then j.newer else Some (new_area 0 covers)) is)
 
   -- no entry is
   pub settled_begins : number_behind j.newer 0 ≤ covers → ((settled covers j).older ≡ None) × ((settled covers j).newer ≡ Some (new_area 0 covers))
   settled_begins le =
-      let is : nat_lt covers (number_behind j.newer 0) ≡ false = le-ltb covers (number_behind j.newer 0) le in
-      (ap (λ (b : Bool). if b then unless_covered covers j.older else None) is, ap (λ (b : Bool). if b then j.newer else Some (new_area 0 covers)) is)
+      let is : has_above last_of covers j.newer ≡ false = above_not covers j.newer le in
+      (ap (λ (b : Bool). if b then unless_covered last_of covers j.older else None) is, ap (λ (b : Bool). if b then j.newer else Some (new_area 0 covers)) is)
 
   -- an area is open
   pub settled_area : IsSome (settled covers j).newer
@@ -158,3 +173,35 @@ module _ (covers : ℕ) (j k : JournalView) (image : List ℕ) (es fs gs hs : Li
       (λ (none_k : length gs + length hs ≤ 0). settled_empty low_j low_k none_j none_k)
       (cases_lt 0 (length gs + length hs)))
       (cases_lt 0 (length es + length fs))
+
+-- ---- as it is kept
+
+one_is : (b : Bool) (a : OpenArea) → option_map area_state (if b then Some a else None) ≡ (if b then Some (area_state a) else None)
+one_is true a = refl
+one_is false a = refl
+
+unless_is : (covers : ℕ) (o : Option OpenArea) → option_map area_state (unless_covered last_of covers o) ≡ unless_covered (λ a. a.last) covers (option_map area_state o)
+unless_is covers None = refl
+unless_is covers (Some a) = one_is (nat_lt covers a.last) a
+
+older_by : (covers : ℕ) (b : Bool) (o : Option OpenArea)
+    → option_map area_state (if b then unless_covered last_of covers o else None) ≡ (if b then unless_covered (λ a. a.last) covers (option_map area_state o) else None)
+older_by covers true o = unless_is covers o
+older_by covers false o = refl
+
+older_is : (covers : ℕ) (o n : Option OpenArea) → option_map area_state (settled_older last_of covers o n) ≡ settled_older (λ a. a.last) covers (option_map area_state o) (option_map area_state n)
+older_is covers o None = refl
+older_is covers o (Some a) = older_by covers (nat_lt covers a.last) o
+
+newer_by : (b : Bool) (a : OpenArea) (fresh : OpenArea) → option_map area_state (if b then Some a else Some fresh) ≡ (if b then Some (area_state a) else Some (area_state fresh))
+newer_by true a fresh = refl
+newer_by false a fresh = refl
+
+newer_is : (covers : ℕ) (n : Option OpenArea)
+    → option_map area_state (settled_newer last_of (new_area 0 covers) covers n) ≡ settled_newer (λ a. a.last) (area_state (new_area 0 covers)) covers (option_map area_state n)
+newer_is covers None = refl
+newer_is covers (Some a) = newer_by (nat_lt covers a.last) a (new_area 0 covers)
+
+-- what is kept of a journal as an opening leaves it is what an opening leaves of what is kept of it
+pub left_open_is : (covers : ℕ) (j : JournalView) → journal_state (settled covers j) ≡ left_open covers (journal_state j)
+left_open_is covers j = λ i. record { size = j.size; older = older_is covers j.older j.newer i; newer = newer_is covers j.newer i; waiting = 0 }

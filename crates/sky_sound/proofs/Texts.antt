@@ -1,6 +1,6 @@
 -- What is read of a disk that is not foreign: entries that are numbered one after the other, from a number up to covers on, and are
 -- each of the grammar. Crates above cite this.
-use Rattle.std.specs.Prelude.{◌≡◌, ◌⊎◌, ℕ, zero, suc, ◌+◌, ◌*◌, ◌≤◌, Bool, true, false, not, ◌||◌, ◌==◌, nat_lt, nat_le, IsTrue, List, [], ◌∷◌, ◌++◌, length, Ok, Err, ok_or, if◌then◌else◌}
+use Rattle.std.specs.Prelude.{◌≡◌, ◌⊎◌, ℕ, zero, suc, ◌+◌, ◌*◌, ◌≤◌, Bool, true, false, not, ◌||◌, ◌==◌, nat_lt, nat_le, IsTrue, List, [], ◌∷◌, ◌++◌, length, Result, Ok, Err, ok_or, if◌then◌else◌}
 use Rattle.std.specs.List.{AllByRecursion}
 use Rattle.std.proofs.Common.{inl, inr, ⊎_elim, refl, sym, ap, ◌∙◌, subst, arith}
 use Rattle.std.proofs.lemmas.Bool.{not-false, eqb-true, ltb-false}
@@ -20,7 +20,7 @@ pub bound : {A B : Type 0} (first : Read A) (next : A → Read B) (y : B) → (f
 bound (Ok x) next y e = (x, refl, e)
 bound (Err place) next y e = absurd cc
 
-pub ok_same : {A : Type 0} (x y : A) (f : Read A) → f ≡ Ok x → f ≡ Ok y → x ≡ y
+pub ok_same : {A E : Type 0} (x y : A) (f : Result A E) → f ≡ Ok x → f ≡ Ok y → x ≡ y
 ok_same x y f e d = cc
 
 not_foreign : (holds : Bool) (place : ℕ) (u : Unit {0}) → foreign_where holds place ≡ Ok u → holds ≡ false

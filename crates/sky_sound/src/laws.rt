@@ -8,7 +8,7 @@ ghost use Rattle.sky_nfs.specs.History.{History, history_length, last_tree};
 ghost use Rattle.sky_nfs.specs.Tree.{empty_tree};
 ghost use Rattle.sky_outside.specs.CloudMap.{CloudMap};
 ghost use Rattle.sky_sound.specs.Boot.{claimed};
-ghost use Rattle.sky_sound.specs.Cloud.{checkpoint_in, epoch_after};
+ghost use Rattle.sky_sound.specs.Cloud.{HasNoCheckpoint, checkpoint_in, epoch_after};
 ghost use Rattle.sky_sound.specs.Recovery.{history_of, FindsSame, IsSound, recovered};
 ghost use Rattle.sky_sound.specs.Settled.{settled};
 
@@ -30,6 +30,11 @@ pub fn history_is_what_is_recovered()
     ensures { (volume size : ℕ) (image : List ℕ) (objects : CloudMap) (history : History)
         → history_of volume size image objects ≡ Ok history
         → recovered volume size image objects ≡ Ok (record { length = history_length history; tree = last_tree history }) }
+{}
+
+/// A site whose cloud lists a checkpoint of the proxy is not sound, as checkpoints are not read yet.
+pub fn a_sound_site_has_no_checkpoint()
+    ensures { (volume size : ℕ) (image : List ℕ) (objects : CloudMap) → IsSound volume size image objects → HasNoCheckpoint objects }
 {}
 
 /// Once the boot object of the next epoch was put, the next epoch is one more; no checkpoint is listed that was not; and a sound

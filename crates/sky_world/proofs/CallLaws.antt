@@ -1,16 +1,13 @@
 -- Laws of a call of NFS: what the program does with it, in each state for which it stands.
-use Rattle.std.specs.Prelude.{IsSome, IsTrue, cond, ◌&&◌}
-use Rattle.std.proofs.Common.{◌≡◌, ◌⊎◌, ℕ, Bool, true, false, Option, Some, None, List, ◌++◌, refl, sym, ap, subst, ◌∙◌}
+use Rattle.std.specs.Prelude.{IsSome, IsTrue, ◌&&◌, nat_lt, length}
+use Rattle.std.proofs.Common.{◌≡◌, ℕ, Bool, true, false, List, refl, sym, ap, subst, ◌∙◌}
 use Rattle.sky_base.specs.declared.cred.Cred.{Cred}
 use Rattle.sky_base.specs.declared.moment.Moment.{Moment}
-use Rattle.sky_calls.specs.Durable.{LeavesOldOrMore, journal_after}
 use Rattle.sky_calls.proofs.Carried.{procedure_tree}
 use Rattle.sky_calls.proofs.Moments.{StandsOn-spare}
 use Rattle.sky_calls.specs.Stable.{is_stable_call}
 use Rattle.sky_entry.specs.Entry.{entry_bytes}
-use Rattle.sky_journal.specs.Journal.{JournalView, Reads, SameButSpare, StandsFor, StandsOn, after_commit}
-use Rattle.sky_journal.proofs.Disks.{told_then}
-use Rattle.sky_journal.proofs.Journals.{StandsFor-but}
+use Rattle.sky_journal.specs.Journal.{JournalView, StandsOn}
 use Rattle.sky_nfs.specs.Calls.{is_change}
 use Rattle.sky_nfs.specs.History.{is_done, last_tree}
 use Rattle.sky_nfs.specs.Tree.{Tree}
@@ -19,21 +16,22 @@ use Rattle.sky_nfs.specs.declared.call.Call.{Call}
 use Rattle.sky_nfs.specs.declared.call.Call.TheVariants as call
 use Rattle.sky_nfs.specs.declared.call.Change.{Change}
 use Rattle.sky_nfs.specs.declared.status.NfsStatus.TheVariants.{Jukebox}
-use Rattle.sky_outside.specs.Moments.{BesideObjects, LeavesOnly}
-use Rattle.sky_outside.specs.Told.{BothTold}
 use Rattle.sky_outside.specs.declared.storage.Storage.{Ghosts}
 use Rattle.sky_results.specs.Answers.{answer_bytes}
 use Rattle.sky_rpc.specs.Reply.{Success, reply_record}
-use Rattle.sky_world.specs.Carried.{Carries, CarriesDown, IsServing, Stays, entries_brought}
-use Rattle.sky_world.specs.Disk.{AreStorable, IsKeptOn, LeavesPrefix, WentOn}
+use Rattle.sky_world.specs.Carried.{Carries, CarriesDown, IsServing, Stays, entries_brought, has_no_room, journal_after_call}
+use Rattle.sky_world.specs.Disk.{LeavesPrefix, WentOn}
+use Rattle.sky_sound.specs.Invariant.{AreStorable, Invariant}
 use Rattle.sky_sound.specs.Entries.{IsStorable}
 use Rattle.sky_world.specs.Feeding.{Called, by_procedure, without_room, without_memory}
-use Rattle.sky_world.specs.Meaning.{State, Kept, called_by, kept_after, lacks_room, makes_stable, service_of, with_kept}
+use Rattle.sky_world.specs.Meaning.{State, called_by, kept_after, lacks_room, makes_stable, service_of, with_kept}
+use Rattle.sky_sound.specs.Kept.{Kept}
 use Rattle.sky_world.specs.Service.{answer_to, bare_answer, reply_without_memory, takes_some}
 use Rattle.sky_world.specs.World.{ServiceView, ServesFor}
 use Rattle.sky_world.proofs.AnswerLaws.{called_tree}
 use Rattle.sky_world.proofs.DiskLaws.{went_nowhere}
-use Rattle.sky_world.proofs.KeepLaws.{Moves, kept_on, leaves_prefix, moves_by, went}
+use Rattle.sky_world.proofs.HistoryLaws.{call_legal}
+use Rattle.sky_world.proofs.KeepLaws.{Moves, invariant_on, invariant_spare, leaves_prefix, moves_by, moves_spare, room_kept, wanted_kept, went}
 use Rattle.sky_world.proofs.StorableLaws.{storable_by}
 
 -- ---- a change makes nothing stable that is not a change
@@ -69,54 +67,24 @@ first_true false b e = absurd cc
 pub done_makes : (tree : Tree) (change : Change) → is_done tree change ≡ true → makes_stable tree change.cred change.call ≡ false
 done_makes tree change e = change_makes tree change.cred change.call (first_true (is_change change.call) _ e)
 
--- the spare of the journal does not matter to what is kept
-spare_aside : (done stable makes : Bool) (j : JournalView) (x y : ℕ) (e : List ℕ)
-    → (let k : JournalView = record j { spare = x } in let l : JournalView = record (cond done (journal_after stable k e) (cond makes (after_commit k) k)) { spare = y } in l)
-    ≡ (let l : JournalView = record (cond done (journal_after stable j e) (cond makes (after_commit j) j)) { spare = y } in l)
-spare_aside true true makes j x y e = refl
-spare_aside true false makes j x y e = refl
-spare_aside false stable true j x y e = refl
-spare_aside false stable false j x y e = refl
-
--- nor to what its disk stands for
-unspare : {S : Type 0} (g : Ghosts S) (s t : S) (j : JournalView) (x : ℕ) (brought : List (List ℕ)) → (let k : JournalView = record j { spare = x } in LeavesOldOrMore g s t k brought) → LeavesOldOrMore g s t j brought
-unspare g s t j x brought leaves =
-    told_then
-    (λ image. (older newer : List (List ℕ)) → (let k : JournalView = record j { spare = x } in StandsFor k image older newer)
-    → LeavesOnly g s t (BesideObjects g s (λ left. Reads j older newer left ⊎ Reads j older (newer ++ brought) left)))
-    (λ image. (older newer : List (List ℕ)) → StandsFor j image older newer
-    → LeavesOnly g s t (BesideObjects g s (λ left. Reads j older newer left ⊎ Reads j older (newer ++ brought) left)))
-    (g.image s) leaves
-    (λ image told l older newer stands. l older newer (StandsFor-but j j.pending x j.down image older newer stands))
-
-unspare_both : (j k : JournalView) (x : ℕ) (brought : List (List ℕ)) (a b : Option (List ℕ))
-    → BothTold (λ old new. (older newer : List (List ℕ)) → (let l : JournalView = record j { spare = x } in StandsFor l old older newer) → StandsFor k new older (newer ++ brought)) a b
-    → BothTold (λ old new. (older newer : List (List ℕ)) → StandsFor j old older newer → StandsFor k new older (newer ++ brought)) a b
-unspare_both j k x brought None None both = tt
-unspare_both j k x brought None (Some w) both = absurd both
-unspare_both j k x brought (Some r) None both = absurd both
-unspare_both j k x brought (Some r) (Some w) both = λ older newer stands. both older newer (StandsFor-but j j.pending x j.down r older newer stands)
-
 module _ {S : Type 0} (g : Ghosts S) (s : S) (state : State) (old : ServiceView) (serves : ServesFor g old s state) (area : IsSome old.journal.newer) where
   -- the service as the state has it
   abbrev as_stated : ServiceView
-  as_stated = record {
-    epoch = state.epoch;
-    tree = last_tree state.kept.history;
-    journal = (let j : JournalView = record state.kept.journal { spare = old.journal.spare } in j);
-    moment = state.moment;
-  }
+  as_stated = record { epoch = state.epoch; tree = last_tree state.kept.history; journal = old.journal; moment = state.moment }
 
   is_stated : old ≡ as_stated
-  is_stated = λ k. record { epoch = serves.epoch k; tree = serves.tree k; journal = serves.journal k; moment = serves.moment k }
+  is_stated = λ k. record { epoch = serves.epoch k; tree = serves.tree k; journal = old.journal; moment = serves.moment k }
 
-  newer_open : IsSome state.kept.journal.newer
-  newer_open = subst (λ (j : JournalView). IsSome j.newer) serves.journal area
-
-  moves : (change : Change) → Moves state.kept (kept_after state.kept change) (entries_brought (last_tree state.kept.history) state.kept.journal change)
+  moves : (change : Change) → Moves state.kept old.journal (kept_after state.kept change) (journal_after_call (last_tree state.kept.history) old.journal change) (entries_brought (last_tree state.kept.history) old.journal change)
   moves change =
-      moves_by g state.kept change s serves.kept newer_open (is_done (last_tree state.kept.history) change) (is_stable_call change.call) (makes_stable (last_tree state.kept.history) change.cred change.call)
+      moves_by g state.epoch state.kept old.journal s serves.invariant change area (is_done (last_tree state.kept.history) change) (is_stable_call change.call) (makes_stable (last_tree state.kept.history) change.cred change.call)
       (done_makes (last_tree state.kept.history) change)
+
+  -- whether there is room for a change, as the journal has it, is as it is kept
+  room_same : (change : Change) → has_no_room (last_tree state.kept.history) old.journal change ≡ lacks_room state.kept change
+  room_same change =
+      let n = length (entry_bytes change) in
+      λ i. is_done (last_tree state.kept.history) change && nat_lt (room_kept g state.epoch state.kept old.journal s serves.invariant i) (wanted_kept g state.epoch state.kept old.journal s serves.invariant n i)
 
   module _ (change : Change) (at : change.moment ≡ old.moment) where
     -- the call as the state has it
@@ -131,7 +99,7 @@ module _ {S : Type 0} (g : Ghosts S) (s : S) (state : State) (old : ServiceView)
 
     -- each change is read from its entry as before, and so is this one, where it is done
     storable_after : (is_done (last_tree state.kept.history) stated ≡ true → IsStorable stated) → AreStorable after.history.changes
-    storable_after one = storable_by (is_done (last_tree state.kept.history) stated) state.kept.history stated serves.kept.storable one
+    storable_after one = storable_by (is_done (last_tree state.kept.history) stated) state.kept.history stated serves.invariant.storable one
 
     -- ---- it was carried out
 
@@ -141,27 +109,24 @@ module _ {S : Type 0} (g : Ghosts S) (s : S) (state : State) (old : ServiceView)
           subst (λ (o : ServiceView). Carries g o s stated answer new t) is_stated
           (subst (λ (c : Change). Carries g old s c answer new t) change_is carries)
 
-      journal_is : SameButSpare after.journal new.journal
-      journal_is =
-          carried.journal
-          ∙ spare_aside (is_done (last_tree state.kept.history) stated) (is_stable_call stated.call) (makes_stable (last_tree state.kept.history) stated.cred stated.call) state.kept.journal old.journal.spare new.journal.spare (entry_bytes stated)
+      moved : Moves state.kept old.journal after new.journal (entries_brought (last_tree state.kept.history) old.journal stated)
+      moved = moves_spare state.kept old.journal after (journal_after_call (last_tree state.kept.history) old.journal stated) new.journal _ carried.journal (moves stated)
 
       stands_after : ServesFor g new t (with_kept state after)
       stands_after = record {
         epoch = carried.epoch;
         tree = carried.tree ∙ procedure_tree (last_tree state.kept.history) state.epoch stated.cred stated.call state.moment ∙ sym (called_tree state.kept.history stated.cred stated.call state.moment);
         moment = carried.moment;
-        journal = journal_is;
-        kept = kept_on g s t state.kept after _ (moves stated) serves.kept (storable_after carried.storable) new.journal new.journal.spare journal_is carried.is carried.serving.stands (unspare_both state.kept.journal new.journal old.journal.spare _ (g.image s) (g.image t) carried.holds);
+        invariant = invariant_on g state.epoch s t state.kept old.journal after new.journal _ moved serves.invariant (storable_after carried.storable) (call_legal state.kept.history stated.cred stated.call stated.moment serves.invariant.legal) carried.is carried.serving.stands carried.holds carried.beside;
       }
 
       went_after : WentOn g s t state.kept.mark after
-      went_after = went g s t state.kept after _ (moves stated) serves.kept (storable_after carried.storable) new.journal (unspare g s t state.kept.journal old.journal.spare _ carried.leaves) (unspare_both state.kept.journal new.journal old.journal.spare _ (g.image s) (g.image t) carried.holds) carried.beside
+      went_after = went g state.epoch s t state.kept old.journal after new.journal _ moved serves.invariant (storable_after carried.storable) carried.leaves carried.holds carried.beside
 
       pub answers_done : (xid number : ℕ) (reply : List ℕ) → reply ≡ reply_record xid (Success (answer_bytes answer))
           → (kept : Kept) × Called state xid number change.cred change.call reply kept × ServesFor g new t (with_kept state kept) × WentOn g s t state.kept.mark kept
       answers_done xid number reply is =
-          (after, by_procedure carried.room (is ∙ ap (λ (a : Answer). reply_record xid (Success (answer_bytes a))) carried.answer_is) refl, stands_after, went_after)
+          (after, by_procedure (sym (room_same stated) ∙ carried.room) (is ∙ ap (λ (a : Answer). reply_record xid (Success (answer_bytes a))) carried.answer_is) refl, stands_after, went_after)
 
     -- ---- a call of the disk failed
 
@@ -175,8 +140,8 @@ module _ {S : Type 0} (g : Ghosts S) (s : S) (state : State) (old : ServiceView)
       fails_down xid number = (
         reply_record xid (Success (answer_bytes (answer_to (service_of state) change.cred change.call))),
         after,
-        by_procedure failed.room refl refl,
-        leaves_prefix g s t state.kept after _ (moves stated) serves.kept (storable_after failed.storable) (unspare g s t state.kept.journal old.journal.spare _ failed.leaves),
+        by_procedure (sym (room_same stated) ∙ failed.room) refl refl,
+        leaves_prefix g state.epoch s t state.kept old.journal after (journal_after_call (last_tree state.kept.history) old.journal stated) _ (moves stated) serves.invariant (storable_after failed.storable) failed.leaves,
       )
 
     -- ---- all stays
@@ -187,19 +152,18 @@ module _ {S : Type 0} (g : Ghosts S) (s : S) (state : State) (old : ServiceView)
         epoch = stays.epoch ∙ serves.epoch;
         tree = stays.tree ∙ serves.tree;
         moment = stays.moment ∙ serves.moment;
-        journal = stays.journal ∙ ap (λ (j : JournalView). let k : JournalView = record j { spare = new.journal.spare } in k) serves.journal;
-        kept = subst (λ (d : S). IsKeptOn g state.kept d) (sym stays.disk) serves.kept;
+        invariant = subst (λ (d : S). Invariant g state.epoch state.kept new.journal d) (sym stays.disk) (invariant_spare g state.epoch state.kept old.journal new.journal s stays.journal serves.invariant);
       }
 
       went_still : WentOn g s t state.kept.mark state.kept
-      went_still = subst (λ (d : S). WentOn g s d state.kept.mark state.kept) (sym stays.disk) (went_nowhere g state.kept s serves.kept)
+      went_still = subst (λ (d : S). WentOn g s d state.kept.mark state.kept) (sym stays.disk) (went_nowhere g state.epoch state.kept old.journal s serves.invariant)
 
-      pub answers_put_off : (xid number : ℕ) (reply : List ℕ) → lacks_room old.tree old.journal change ≡ true → reply ≡ reply_record xid (Success (answer_bytes (bare_answer number Jukebox)))
+      pub answers_put_off : (xid number : ℕ) (reply : List ℕ) → has_no_room old.tree old.journal change ≡ true → reply ≡ reply_record xid (Success (answer_bytes (bare_answer number Jukebox)))
           → (kept : Kept) × Called state xid number change.cred change.call reply kept × ServesFor g new t (with_kept state kept) × WentOn g s t state.kept.mark kept
       answers_put_off xid number reply lacks is =
-          let stated_lacks : lacks_room (last_tree state.kept.history) state.kept.journal stated ≡ true =
-          subst (λ (o : ServiceView). lacks_room o.tree o.journal stated ≡ true) is_stated (subst (λ (c : Change). lacks_room old.tree old.journal c ≡ true) change_is lacks) in
-          (state.kept, without_room stated_lacks is refl, stands_still, went_still)
+          let stated_lacks : has_no_room (last_tree state.kept.history) old.journal stated ≡ true =
+          subst (λ (o : ServiceView). has_no_room o.tree o.journal stated ≡ true) is_stated (subst (λ (c : Change). has_no_room old.tree old.journal c ≡ true) change_is lacks) in
+          (state.kept, without_room (sym (room_same stated) ∙ stated_lacks) is refl, stands_still, went_still)
 
       pub answers_no_memory : (xid number : ℕ) (reply : List ℕ) → IsTrue (takes_some (record { epoch = old.epoch; tree = old.tree; moment = change.moment }) change.cred change.call)
           → reply ≡ reply_record xid (reply_without_memory number)

@@ -7,13 +7,14 @@ use Rattle.std.proofs.lemmas.Bool.Decides.{nat_tests}
 use Rattle.std.proofs.lemmas.List.{append-nil}
 use Rattle.sky_base.specs.declared.cred.Cred.{Cred}
 use Rattle.sky_base.specs.declared.moment.Moment.{Moment}
-use Rattle.sky_calls.specs.Durable.{HoldsMore, IfDone, IfJukebox, IfPutOff, LeavesOldOrAll, LeavesOldOrMore, entries_kept, is_down, journal_after}
+use Rattle.sky_calls.specs.Durable.{IfDone, IfJukebox, IfPutOff, LeavesOldOrAll, entries_kept, is_down, journal_after}
+use Rattle.sky_journal.specs.Lasting.{HoldsMore, LeavesOldOrMore}
 use Rattle.sky_calls.specs.Stable.{is_stable_call}
 use Rattle.sky_calls.specs.declared.outcome.Outcome.{Outcome}
 use Rattle.sky_calls.specs.declared.outcome.Outcome.TheVariants.{Done, Jukebox, Down, Memory}
 use Rattle.sky_calls.proofs.Carried.{procedure_tree}
 use Rattle.sky_entry.specs.Entry.{IsEntry, entry_bytes}
-use Rattle.sky_journal.specs.Journal.{JournalView, IsJournal, Reads, SameButSpare, StandsFor, StandsOn, after_commit, area_with, room_of, wanted_of}
+use Rattle.sky_journal.specs.Journal.{JournalView, IsJournal, ReadsEntries, SameButSpare, StandsFor, StandsOn, after_commit, area_with, room_of, wanted_of}
 use Rattle.sky_journal.specs.declared.open_area.OpenArea.{OpenArea}
 use Rattle.sky_journal.proofs.Reading.{reads}
 use Rattle.sky_nfs.specs.Calls.{is_change}
@@ -128,9 +129,9 @@ module _ {S : Type 0} (g : Ghosts S) where
   waits : (s : S) (j : JournalView) (more : List (List ℕ)) → IsJournal j → StandsOn g j s → LeavesOldOrMore g s s j more
   waits s j more is stands =
       WhereTold-from (g.image s) (λ image. (older newer : List (List ℕ)) → StandsFor j image older newer
-      → LeavesOnly g s s (BesideObjects g s (λ left. Reads j older newer left ⊎ Reads j older (newer ++ more) left)))
-      (λ image told older newer here. LeavesOnly-disk_start g s (λ left. Reads j older newer left ⊎ Reads j older (newer ++ more) left)
-      (λ left leaves. inl (subst (λ (l : List ℕ). Reads j older newer l) (sym (only_read g s image told stands.durable left leaves)) (reads j image older newer is here))))
+      → LeavesOnly g s s (BesideObjects g s (λ left. ReadsEntries j older newer left ⊎ ReadsEntries j older (newer ++ more) left)))
+      (λ image told older newer here. LeavesOnly-disk_start g s (λ left. ReadsEntries j older newer left ⊎ ReadsEntries j older (newer ++ more) left)
+      (λ left leaves. inl (subst (λ (l : List ℕ). ReadsEntries j older newer l) (sym (only_read g s image told stands.durable left leaves)) (reads j image older newer is here))))
 
   waits_at : (s t : S) (j : JournalView) (more : List (List ℕ)) → t ≡ s → IsJournal j → StandsOn g j s → LeavesOldOrMore g s t j more
   waits_at s t j more e is stands = subst (λ (d : S). LeavesOldOrMore g s d j more) (sym e) (waits s j more is stands)

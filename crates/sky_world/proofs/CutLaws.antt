@@ -2,14 +2,16 @@
 use Rattle.std.proofs.Common.{◌≡◌, ℕ, ◌<◌, true, false, Option, Some, None, List, [], ◌∷◌, ◌++◌, length, ◌⊎◌, ⊎_elim, inl, inr, refl, sym, ap, subst, ◌∙◌, append_assoc}
 use Rattle.std.proofs.lemmas.Bool.{cases_lt}
 use Rattle.std.proofs.lemmas.List.{append-nil, get_or_past}
-use Rattle.sky_record.specs.Stream.{Progress, AtHeader, InFragment, Whole, TooLong, Received, Reads, Completes}
+use Rattle.sky_record.specs.Stream.{Progress, AtHeader, InFragment, Whole, TooLong, Received, ReadsRecords, Completes}
 use Rattle.sky_record.proofs.Reading.{one_reading, closed_reads_on}
 use Rattle.sky_script.specs.Frame as frame
 use Rattle.sky_script.specs.Frame.{OutFrame}
-use Rattle.sky_world.specs.Bytes.{AreBytes, HasBytes, HasByteStreams}
-use Rattle.sky_world.specs.Meaning.{State, Kept, Session, Absent, Open, Closed, Memory, Answered, by_meaning, put_off, out_of_memory, session_at, with_kept, with_session, is_open, frame_for, after_reply, Passes, Then, Closes, StepRecord, StepRecords, StepProgress, StepBytes, Step}
+use Rattle.sky_xdr.specs.Encoding.{AreBytes}
+use Rattle.sky_xdr.proofs.Numbers.{AreBytes-append}
+use Rattle.sky_world.specs.Bytes.{HasBytes, HasByteStreams}
+use Rattle.sky_world.specs.Meaning.{State, Session, Absent, Open, Closed, Supply, Answered, by_meaning, put_off, out_of_memory, session_at, with_kept, with_session, is_open, frame_for, after_reply, Passes, Then, Closes, StepRecord, StepRecords, StepProgress, StepBytes, Step}
+use Rattle.sky_sound.specs.Kept.{Kept}
 use Rattle.sky_world.proofs.SessionLaws.{all-at}
-use Rattle.sky_world.proofs.FrameLaws.{bytes-append}
 use Rattle.sky_world.proofs.FeedLaws.{completed, progress_passed}
 use Rattle.sky_world.proofs.StepLaws.{session_at-same, with_session-twice, where_open, of_open, of_closed, records_then, records_passed, records_pass}
 
@@ -20,7 +22,7 @@ progress_passes n (InFragment last due) s outs t e p = p
 progress_passes n Whole s outs t e p = p
 progress_passes n TooLong s outs t e p = of_closed (Closes n) n s outs t e p
 
-module _ (mem : Memory) (s : State) (n : ℕ) (lt : n < length s.sessions) where
+module _ (mem : Supply) (s : State) (n : ℕ) (lt : n < length s.sessions) where
   -- the session is open with this stream, and this is the history
   abbrev at : Kept → List ℕ → State
   at h stream = with_session (with_kept s h) n (Open stream)
@@ -106,7 +108,7 @@ module _ (mem : Memory) (s : State) (n : ℕ) (lt : n < length s.sessions) where
     closed_first : (fits : AreBytes stream) (p_fits : AreBytes p) (q_fits : AreBytes q) (records : List (List ℕ)) (end : Received) (outs : List OutFrame) (h : Kept) → Completes stream p records end
         → StepRecords mem n records begun outs (shut h) → Whole_step outs (shut h)
     closed_first fits p_fits q_fits records end outs h c steps =
-        let k = completed stream (p ++ q) p q c.before records c.part end fits (bytes-append p q p_fits q_fits) refl c.read c.goes_on in
+        let k = completed stream (p ++ q) p q c.before records c.part end fits (AreBytes-append p q p_fits q_fits) refl c.read c.goes_on in
         let all = records_then mem n records k.later begun outs (shut h) [] (shut h) steps (records_passed mem n k.later (shut h) (shut_closed h)) in
         let here = subst (λ (o : List OutFrame). StepRecords mem n (records ++ k.later) begun o (shut h)) (append-nil outs) all in
         (records ++ k.later, k.end, k.completes, (shut h, outs, [], here, progress_passed n k.end.progress (shut h) (shut_closed h), sym (append-nil outs)))
@@ -121,7 +123,7 @@ module _ (mem : Memory) (s : State) (n : ℕ) (lt : n < length s.sessions) where
         let y : List ℕ = stream ++ (p ++ q) in
         let end : Received = record { bytes = bytes; progress = TooLong } in
         let read = closed_reads_on (stream ++ p) q (c.before ++ records) bytes TooLong c.goes_on (λ o. o) in
-        let goes_on = subst (λ (t : List ℕ). Reads t (c.before ++ records) end) text_is read in
+        let goes_on = subst (λ (t : List ℕ). ReadsRecords t (c.before ++ records) end) text_is read in
         let closes : Closes n (at h y) (frame.Closed n ∷ []) (shut h) = (refl, sym (shut_twice h y)) in
         (records, end, record { before = c.before; part = c.part; read = c.read; goes_on = goes_on }, (at h y, outs, frame.Closed n ∷ [], steps, where_open (Closes n) n (at h y) (frame.Closed n ∷ []) (shut h) (at_open h y) closes, refl))
 
@@ -133,7 +135,7 @@ module _ (mem : Memory) (s : State) (n : ℕ) (lt : n < length s.sessions) where
         let y : List ℕ = stream ++ (p ++ q) in
         let before : d.before ≡ c.before ++ records = (one_reading (stream ++ p) d.before (c.before ++ records) d.part end d.read c.goes_on).0 in
         let records_are : d.before ++ later ≡ c.before ++ (records ++ later) = ap (λ (t : List (List ℕ)). t ++ later) before ∙ append_assoc c.before records later in
-        let goes_on = subst (λ (t : List (List ℕ)). Reads y t last) records_are (subst (λ (t : List ℕ). Reads t (d.before ++ later) last) text_is d.goes_on) in (
+        let goes_on = subst (λ (t : List (List ℕ)). ReadsRecords y t last) records_are (subst (λ (t : List ℕ). ReadsRecords t (d.before ++ later) last) text_is d.goes_on) in (
           records ++ later,
           last,
           record { before = c.before; part = c.part; read = c.read; goes_on = goes_on },
@@ -208,17 +210,17 @@ open_within s n stream e =
     ⊎_elim (λ lt. lt) (λ le. let none : Absent ≡ Open stream = sym (get_or_past s.sessions n Absent le) ∙ e in absurd cc) (cases_lt n (length s.sessions))
 
 -- a session that is not open is passed over
-passes_of : (mem : Memory) (x : Session) (n : ℕ) (payload : List ℕ) (s : State) (outs : List OutFrame) (t : State) → is_open x ≡ false → StepBytes mem x n payload s outs t → Passes s outs t
+passes_of : (mem : Supply) (x : Session) (n : ℕ) (payload : List ℕ) (s : State) (outs : List OutFrame) (t : State) → is_open x ≡ false → StepBytes mem x n payload s outs t → Passes s outs t
 passes_of mem Absent n payload s outs t e p = p
 passes_of mem (Open stream) n payload s outs t e p = absurd cc
 passes_of mem Closed n payload s outs t e p = p
 
-of_passes : (mem : Memory) (x : Session) (n : ℕ) (payload : List ℕ) (s : State) (outs : List OutFrame) (t : State) → is_open x ≡ false → Passes s outs t → StepBytes mem x n payload s outs t
+of_passes : (mem : Supply) (x : Session) (n : ℕ) (payload : List ℕ) (s : State) (outs : List OutFrame) (t : State) → is_open x ≡ false → Passes s outs t → StepBytes mem x n payload s outs t
 of_passes mem Absent n payload s outs t e p = p
 of_passes mem (Open stream) n payload s outs t e p = absurd cc
 of_passes mem Closed n payload s outs t e p = p
 
-pass_both : (mem : Memory) (s : State) (n : ℕ) (p q : List ℕ) (outs further : List OutFrame) (mid new : State) → is_open (session_at s n) ≡ false → StepBytes mem (session_at s n) n p s outs mid
+pass_both : (mem : Supply) (s : State) (n : ℕ) (p q : List ℕ) (outs further : List OutFrame) (mid new : State) → is_open (session_at s n) ≡ false → StepBytes mem (session_at s n) n p s outs mid
     → StepBytes mem (session_at mid n) n q mid further new → StepBytes mem (session_at s n) n (p ++ q) s (outs ++ further) new
 pass_both mem s n p q outs further mid new e first second =
     let f = passes_of mem (session_at s n) n p s outs mid e first in
@@ -228,7 +230,7 @@ pass_both mem s n p q outs further mid new e first second =
 
 -- ---- the two frames
 
-pub cut_step : (mem : Memory) (s : State) (n : ℕ) (p q : List ℕ) (outs further : List OutFrame) (mid new : State) → HasByteStreams s → AreBytes p → AreBytes q
+pub cut_step : (mem : Supply) (s : State) (n : ℕ) (p q : List ℕ) (outs further : List OutFrame) (mid new : State) → HasByteStreams s → AreBytes p → AreBytes q
     → Step mem s (frame.Bytes n p) outs mid → Step mem mid (frame.Bytes n q) further new → Step mem s (frame.Bytes n (p ++ q)) (outs ++ further) new
 cut_step mem s n p q outs further mid new has p_fits q_fits first second = go (session_at s n) refl
   where

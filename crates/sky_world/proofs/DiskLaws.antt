@@ -1,42 +1,52 @@
 -- Laws of what the journal's disk has: how prefixes of one history stay prefixes of it as it goes on, and how calls follow one another.
+use Rattle.std.specs.Prelude.{drop}
 use Rattle.std.proofs.Common.{◌≡◌, ℕ, ◌-◌, ◌≤◌, Option, Some, None, List, [], ◌++◌, map, take, length, refl, sym, ap, subst, ◌∙◌, arith, append_assoc, ⊎_elim, inl, inr}
 use Rattle.std.proofs.lemmas.List.{append-nil, length-append, take-append-le}
 use Rattle.sky_entry.specs.Entry.{entry_bytes}
-use Rattle.sky_journal.specs.Journal.{IsJournal, ReadsAs, entries}
+use Rattle.sky_journal.specs.Journal.{JournalView, ReadsEntries, ReadsAs, entries, first_base}
 use Rattle.sky_journal.specs.Text.{numbered}
 use Rattle.sky_journal.proofs.Reading.{reads}
-use Rattle.sky_nfs.specs.History.{history_length}
+use Rattle.sky_nfs.specs.History.{history_length, tree_after_changes, tree_at_length}
+use Rattle.sky_nfs.specs.Tree.{Tree}
+use Rattle.sky_nfs.specs.Validity.{IsValidTree}
 use Rattle.sky_nfs.specs.declared.call.Change.{Change}
+use Rattle.sky_outside.specs.CloudMap.{CloudMap}
 use Rattle.sky_outside.specs.Moments.{BesideObjects, LeavesOnly}
-use Rattle.sky_outside.specs.Told.{BothTold, WhereTold}
+use Rattle.sky_outside.specs.Told.{BothTold}
 use Rattle.sky_outside.specs.declared.storage.Storage.{Ghosts}
 use Rattle.sky_outside.proofs.MomentLaws.{LeavesOnly-disk_start, LeavesOnly-disk_then, only_read}
 use Rattle.sky_outside.proofs.ToldLaws.{WhereTold-at, WhereTold-from}
+use Rattle.sky_sound.specs.Cloud.{cloud_tree}
 use Rattle.sky_sound.specs.Entries.{IsStorable}
-use Rattle.sky_world.specs.Disk.{AreStorable, HasKept, HoldsPrefix, IsKeptOn, LeavesPrefix, ReadsAsPrefix, WentOn, entries_to}
-use Rattle.sky_world.specs.Meaning.{Kept, cut_to}
+use Rattle.sky_sound.specs.Invariant.{AreStorable, CloudHas, DiskHas, Invariant, entries_between, entries_to}
+use Rattle.sky_sound.specs.Kept.{Kept, JournalState}
+use Rattle.sky_world.specs.Disk.{HoldsPrefix, LeavesPrefix, ReadsTo, WentOn}
+use Rattle.sky_world.specs.Meaning.{cut_to}
 use Rattle.sky_world.proofs.StorableLaws.{all_take}
 
 -- ---- what is kept goes on
 
--- what is kept later goes on from what is kept now: further changes behind the same ones, in a journal of the same volume and size
+-- What is kept later goes on from what is kept now: further changes behind the same ones, of the same beginning, in a journal with areas of the same
+-- size; and no more are completed.
 pub record Extends (kept later : Kept) : Type 0 where
   pub before : later.history.before ≡ kept.history.before
+  pub tree : later.history.tree ≡ kept.history.tree
   pub more : List Change
   pub changes : later.history.changes ≡ kept.history.changes ++ more
-  pub volume : later.journal.volume ≡ kept.journal.volume
   pub size : later.journal.size ≡ kept.journal.size
+  pub completed : later.completed ≡ kept.completed
 
 pub extends_same : (kept : Kept) → Extends kept kept
-extends_same kept = record { before = refl; more = []; changes = sym (append-nil kept.history.changes); volume = refl; size = refl }
+extends_same kept = record { before = refl; tree = refl; more = []; changes = sym (append-nil kept.history.changes); size = refl; completed = refl }
 
 pub extends_then : (a b c : Kept) → Extends a b → Extends b c → Extends a c
 extends_then a b c x y = record {
   before = y.before ∙ x.before;
+  tree = y.tree ∙ x.tree;
   more = x.more ++ y.more;
   changes = y.changes ∙ ap (λ (cs : List Change). cs ++ y.more) x.changes ∙ append_assoc a.history.changes x.more y.more;
-  volume = y.volume ∙ x.volume;
   size = y.size ∙ x.size;
+  completed = y.completed ∙ x.completed;
 }
 
 -- the first changes stay the same
@@ -50,35 +60,61 @@ changes_to_same kept later x n le =
 pub entries_to_same : (kept later : Kept) → (x : Extends kept later) → (n : ℕ) → n ≤ history_length kept.history → entries_to later.history n ≡ entries_to kept.history n
 entries_to_same kept later x n le = ap (λ (cs : List Change). map entry_bytes cs) (changes_to_same kept later x n le)
 
+pub entries_between_same : (kept later : Kept) → (x : Extends kept later) → (base n : ℕ) → n ≤ history_length kept.history → entries_between later.history base n ≡ entries_between kept.history base n
+entries_between_same kept later x base n le =
+    ap (λ (b : ℕ). drop (base - b) (entries_to later.history n)) x.before ∙ ap (λ (es : List (List ℕ)). drop (base - kept.history.before) es) (entries_to_same kept later x n le)
+
+-- and the tree that they lead to
+pub tree_same : (kept later : Kept) → (x : Extends kept later) → (n : ℕ) → n ≤ history_length kept.history → tree_at_length later.history n ≡ tree_at_length kept.history n
+tree_same kept later x n le =
+    ap (λ (t : Tree). tree_after_changes t (cut_to n later.history).changes) x.tree ∙ ap (λ (cs : List Change). tree_after_changes kept.history.tree cs) (changes_to_same kept later x n le)
+
 -- a history does not get shorter
 pub longer : (kept later : Kept) → Extends kept later → history_length kept.history ≤ history_length later.history
 longer kept later x =
     let e : length later.history.changes ≡ length (kept.history.changes ++ x.more) = ap (λ (cs : List Change). length cs) x.changes in
     omega (arith, e, x.before, length-append kept.history.changes x.more)
 
-pub prefix_on : (kept later : Kept) → Extends kept later → (n : ℕ) (image : List ℕ) → n ≤ history_length kept.history → ReadsAsPrefix kept n image → ReadsAsPrefix later n image
-prefix_on kept later x n image le is =
-    let k = kept.journal in
-    let b = kept.history.before in
-    let es = entries_to later.history n in
-    let first : ReadsAs k.volume k.size b (numbered b es) image = subst (λ (e : List (List ℕ)). ReadsAs k.volume k.size b (numbered b e) image) (sym (entries_to_same kept later x n le)) is in
-    let second : ReadsAs k.volume k.size later.history.before (numbered later.history.before es) image = subst (λ (a : ℕ). ReadsAs k.volume k.size a (numbered a es) image) (sym x.before) first in
-    let third : ReadsAs k.volume later.journal.size later.history.before (numbered later.history.before es) image =
-    subst (λ (z : ℕ). ReadsAs k.volume z later.history.before (numbered later.history.before es) image) (sym x.size) second in
-    subst (λ (v : ℕ). ReadsAs v later.journal.size later.history.before (numbered later.history.before es) image) (sym x.volume) third
+-- ---- what reads so, by what is known of its parts
 
-pub holds_on : (kept later : Kept) → Extends kept later → (mark least : ℕ) (image : List ℕ) → least ≤ mark → HoldsPrefix mark kept image → HoldsPrefix least later image
-holds_on kept later x mark least image le h = (
-  h.0,
-  omega (arith, le, h.1),
-  omega (arith, h.2, longer kept later x),
-  prefix_on kept later x h.0 image h.2 h.3,
-  subst AreStorable (sym (changes_to_same kept later x h.0 h.2)) h.4,
-)
+pub as_kept : (v w a c base : ℕ) (l m : List (ℕ × List ℕ)) (image : List ℕ) → v ≡ w → a ≡ c → l ≡ m → ReadsAs v a base l image → ReadsAs w c base m image
+as_kept v w a c base l m image volume size list is =
+    subst (λ (x : ℕ). ReadsAs x c base m image) volume (subst (λ (x : ℕ). ReadsAs v x base m image) size (subst (λ (x : List (ℕ × List ℕ)). ReadsAs v a base x image) list is))
 
--- the changes up to the mark, where each can be read
+pub prefix_on : (kept later : Kept) → Extends kept later → (n : ℕ) (image : List ℕ) → n ≤ history_length kept.history → ReadsTo kept n image → ReadsTo later n image
+prefix_on kept later x n image le r = record {
+  base = r.base;
+  least = omega (arith, r.least, x.before);
+  most = omega (arith, r.most, x.completed);
+  reads =
+      as_kept kept.history.tree.volume later.history.tree.volume kept.journal.size later.journal.size r.base (numbered r.base (entries_between kept.history r.base n)) (numbered r.base (entries_between later.history r.base n)) image
+      (ap (λ (t : Tree). t.volume) (sym x.tree)) (sym x.size) (ap (λ (es : List (List ℕ)). numbered r.base es) (sym (entries_between_same kept later x r.base n le))) r.reads;
+}
+
+pub holds_on : (kept later : Kept) → Extends kept later → (floor least : ℕ) (image : List ℕ) → least ≤ floor → HoldsPrefix floor kept image → HoldsPrefix least later image
+holds_on kept later x floor least image le h = record {
+  n = h.n;
+  least = omega (arith, le, h.least, x.completed);
+  most = omega (arith, h.most, longer kept later x);
+  reads = prefix_on kept later x h.n image h.most h.reads;
+  storable = subst AreStorable (sym (changes_to_same kept later x h.n h.most)) h.storable;
+}
+
+-- the changes up to a number, where each can be read
 pub storable_to : (kept : Kept) (n : ℕ) → AreStorable kept.history.changes → AreStorable (cut_to n kept.history).changes
 storable_to kept n all = all_take IsStorable (n - kept.history.before) kept.history.changes all
+
+-- a cloud has the same of a history that goes on
+pub cloud_on : (kept later : Kept) → Extends kept later → kept.completed ≤ history_length kept.history → (objects : CloudMap) → CloudHas kept objects → CloudHas later objects
+cloud_on kept later x le objects has =
+    let same : tree_at_length later.history later.completed ≡ tree_at_length kept.history kept.completed =
+    ap (λ (n : ℕ). tree_at_length later.history n) x.completed ∙ tree_same kept later x kept.completed le in
+    record {
+      no_checkpoint = has.no_checkpoint;
+      covers = has.covers ∙ sym x.completed;
+      tree = ap (λ (t : Tree). cloud_tree t.volume objects) x.tree ∙ has.tree ∙ sym same;
+      valid = subst (λ (t : Tree). IsValidTree t) (sym same) has.valid;
+    }
 
 -- ---- calls one after the other
 
@@ -99,12 +135,55 @@ both_then (Some x) None c p q = absurd p
 both_then (Some x) (Some y) None p q = absurd q
 both_then (Some x) (Some y) (Some z) p q = tt
 
--- what has what is kept reads as the prefix up to the mark
-pub read_prefix : (kept : Kept) → IsJournal kept.journal → (image : List ℕ) → HasKept kept image → ReadsAsPrefix kept kept.mark image
-read_prefix kept is image has =
-    let list : entries kept.journal has.older has.newer ≡ numbered kept.history.before (entries_to kept.history kept.mark) =
-    ap (λ (n : List (List ℕ)). entries kept.journal has.older n) (sym (append-nil has.newer)) ∙ has.numbers [] ∙ ap (λ (n : List (List ℕ)). numbered kept.history.before n) (append-nil (entries_to kept.history kept.mark)) in
-    rw (← list, ← has.base) (reads kept.journal image has.older has.newer is has.laid)
+-- ---- what the disk has now
+
+-- what reads as the entries that the journal has reads as the changes that are stored
+pub prefix_read : (kept : Kept) (j : JournalView) (image left : List ℕ) → j.volume ≡ kept.history.tree.volume → j.size ≡ kept.journal.size → (has : DiskHas kept j image) → ReadsEntries j has.older has.newer left → ReadsTo kept kept.stored left
+prefix_read kept j image left volume size has read =
+    let b = first_base j in
+    let list : entries j has.older has.newer ≡ numbered b (entries_between kept.history b kept.stored) =
+    ap (λ (n : List (List ℕ)). entries j has.older n) (sym (append-nil has.newer)) ∙ has.numbers [] ∙ ap (λ (n : List (List ℕ)). numbered b n) (append-nil (entries_between kept.history b kept.stored)) in
+    record {
+      base = b;
+      least = has.least;
+      most = has.most;
+      reads = as_kept j.volume kept.history.tree.volume j.size kept.journal.size b (entries j has.older has.newer) (numbered b (entries_between kept.history b kept.stored)) left volume size list read;
+    }
+
+module _ {S : Type 0} (g : Ghosts S) (epoch : ℕ) (kept : Kept) (j : JournalView) (s : S) (on : Invariant g epoch kept j s) where
+  pub size_is : j.size ≡ kept.journal.size
+  size_is = ap (λ (x : JournalState). x.size) on.journal_is
+
+  pub read_has : (read : List ℕ) → g.image s ≡ Some read → DiskHas kept j read
+  read_has read is = WhereTold-at (g.image s) (DiskHas kept j) read is on.disk
+
+  pub read_is_prefix : (read : List ℕ) → g.image s ≡ Some read → ReadsTo kept kept.stored read
+  read_is_prefix read is =
+      let has = read_has read is in
+      prefix_read kept j read read on.volume size_is has (reads j read has.older has.newer on.is has.laid)
+
+  -- the changes that are stored
+  pub holds_read : (read : List ℕ) → g.image s ≡ Some read → HoldsPrefix kept.mark kept read
+  holds_read read is = record {
+    n = kept.stored;
+    least = omega (arith, on.marked);
+    most = on.stored;
+    reads = read_is_prefix read is;
+    storable = storable_to kept kept.stored on.storable;
+  }
+
+  -- no call yet
+  pub went_nowhere : WentOn g s s kept.mark kept
+  went_nowhere = record {
+    leaves =
+        WhereTold-from (g.image s) (λ read. LeavesOnly g s s (BesideObjects g s (HoldsPrefix kept.mark kept)))
+        (λ read is. LeavesOnly-disk_start g s (HoldsPrefix kept.mark kept)
+        (λ image left. subst (λ (i : List ℕ). HoldsPrefix kept.mark kept i) (sym (only_read g s read is on.durable image left)) (holds_read read is)));
+    tells = both_same (g.image s);
+    beside = record { objects = refl; standing = refl };
+  }
+
+-- ---- calls one after the other
 
 module _ {S : Type 0} (g : Ghosts S) where
   -- it holds for what is kept later, and for a mark that is lower
@@ -140,25 +219,4 @@ module _ {S : Type 0} (g : Ghosts S) where
     leaves = leaves_on s t mark least kept later le x first.leaves;
     tells = first.tells;
     beside = first.beside;
-  }
-
-  -- ---- what stands on the disk is the prefix up to the mark
-
-  pub read_is_prefix : (kept : Kept) (s : S) → IsKeptOn g kept s → (read : List ℕ) → g.image s ≡ Some read → ReadsAsPrefix kept kept.mark read
-  read_is_prefix kept s on read is = read_prefix kept on.is read (WhereTold-at (g.image s) (HasKept kept) read is on.has)
-
-  pub left_is_prefix : (kept : Kept) (s : S) → IsKeptOn g kept s → (image : List ℕ) → WhereTold (g.image s) (λ read. g.may_leave s image → ReadsAsPrefix kept kept.mark image)
-  left_is_prefix kept s on image =
-      WhereTold-from (g.image s) (λ read. g.may_leave s image → ReadsAsPrefix kept kept.mark image)
-      (λ read is left. subst (λ (i : List ℕ). ReadsAsPrefix kept kept.mark i) (sym (only_read g s read is on.durable image left)) (read_is_prefix kept s on read is))
-
-  -- no call yet
-  pub went_nowhere : (kept : Kept) (s : S) → IsKeptOn g kept s → WentOn g s s kept.mark kept
-  went_nowhere kept s on = record {
-    leaves =
-        WhereTold-from (g.image s) (λ read. LeavesOnly g s s (BesideObjects g s (HoldsPrefix kept.mark kept)))
-        (λ read is. LeavesOnly-disk_start g s (HoldsPrefix kept.mark kept)
-        (λ image left. (kept.mark, omega arith, on.most, WhereTold-at (g.image s) (λ r. g.may_leave s image → ReadsAsPrefix kept kept.mark image) read is (left_is_prefix kept s on image) left, storable_to kept kept.mark on.storable)));
-    tells = both_same (g.image s);
-    beside = record { objects = refl; standing = refl };
   }

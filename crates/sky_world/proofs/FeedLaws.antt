@@ -9,17 +9,19 @@ use Rattle.sky_outside.proofs.ToldLaws.{Given-then}
 use Rattle.sky_record.specs.declared.assembler.Fed.{Fed}
 use Rattle.sky_record.specs.declared.assembler.Fed.TheVariants as fed_as
 use Rattle.sky_record.specs.Feeding.{answer_at, FedReads}
-use Rattle.sky_record.specs.Stream.{Progress, AtHeader, InFragment, Whole, TooLong, Received, nothing, IsOpen, Reads, Completes}
+use Rattle.sky_record.specs.Stream.{Progress, AtHeader, InFragment, Whole, TooLong, Received, nothing, IsOpen, ReadsRecords, Completes}
 use Rattle.sky_record.proofs.Reading.{has_reading, records_stay, closed_reads_on}
 use Rattle.sky_script.specs.Frame as frame
 use Rattle.sky_script.specs.Frame.{OutFrame, Reply, out_frame, out_frames}
-use Rattle.sky_world.specs.Bytes.{AreBytes}
+use Rattle.sky_xdr.specs.Encoding.{AreBytes}
+use Rattle.sky_xdr.proofs.Numbers.{AreBytes-append}
 use Rattle.sky_world.specs.Disk.{LeavesPrefix, WentOn}
-use Rattle.sky_world.specs.Meaning.{State, Kept, Open, Closed, Scarce, Answered, by_meaning, put_off, out_of_memory, session_at, with_kept, with_session, frame_for, is_open, Then, Closes, StepRecord, StepRecords, StepProgress, StepBytes}
+use Rattle.sky_world.specs.Meaning.{State, Open, Closed, Scarce, Answered, by_meaning, put_off, out_of_memory, session_at, with_kept, with_session, frame_for, is_open, Then, Closes, StepRecord, StepRecords, StepProgress, StepBytes}
+use Rattle.sky_sound.specs.Kept.{Kept}
 use Rattle.sky_world.specs.World.{ServiceView, ServesFor}
 use Rattle.sky_world.specs.Feeding.{Answers, Fails, FeedFails, GoesOn, Feeds, more, answered, too_long, Rests, UnderWay}
 use Rattle.sky_world.proofs.DiskLaws.{went_nowhere}
-use Rattle.sky_world.proofs.FrameLaws.{bytes-append}
+use Rattle.sky_world.proofs.FrameLaws.{each_byte}
 use Rattle.sky_world.proofs.StepLaws.{session_at-same, with_session-twice, where_open, where_closed, records_then, records_passed, records_some, progress_some}
 
 -- ---- one record
@@ -83,16 +85,16 @@ pub record Completed (stream payload : List ℕ) (got : List (List ℕ)) : Type 
   pub completes : Completes stream payload (got ++ later) end
 
 pub completed : (stream payload done rest : List ℕ) (before got : List (List ℕ)) (part received : Received) → AreBytes stream → AreBytes payload → payload ≡ done ++ rest
-    → Reads stream before part → Reads (stream ++ done) (before ++ got) received → Completed stream payload got
+    → ReadsRecords stream before part → ReadsRecords (stream ++ done) (before ++ got) received → Completed stream payload got
 completed stream payload done rest before got part received fits more_fit e read goes_on =
-    let all = has_reading (stream ++ payload) (bytes-append stream payload fits more_fit) in
+    let all = has_reading (stream ++ payload) (each_byte (stream ++ payload) (AreBytes-append stream payload fits more_fit)) in
     let is : stream ++ payload ≡ (stream ++ done) ++ rest = ap (λ (t : List ℕ). stream ++ t) e ∙ sym (append_assoc stream done rest) in
-    let later = records_stay (stream ++ done) rest (before ++ got) all.0 received all.1 goes_on (subst (λ (t : List ℕ). Reads t all.0 all.1) is all.2) in
+    let later = records_stay (stream ++ done) rest (before ++ got) all.0 received all.1 goes_on (subst (λ (t : List ℕ). ReadsRecords t all.0 all.1) is all.2) in
     let records_are : all.0 ≡ before ++ (got ++ later.0) = later.1 ∙ append_assoc before got later.0 in
     record {
       later = later.0;
       end = all.1;
-      completes = record { before = before; part = part; read = read; goes_on = subst (λ (t : List (List ℕ)). Reads (stream ++ payload) t all.1) records_are all.2 };
+      completes = record { before = before; part = part; read = read; goes_on = subst (λ (t : List (List ℕ)). ReadsRecords (stream ++ payload) t all.1) records_are all.2 };
     }
 
 -- at most one frame answers the bytes up to the end of a record
@@ -112,13 +114,13 @@ feeds_open g n before d old bytes outs stays after e new (too_long end goes long
 module _ {S : Type 0} (g : Ghosts S) (s : State) (n : ℕ) (stream : List ℕ) (lt : n < length s.sessions) where
   -- ---- a payload begins
 
-  pub under_way_begins : (before : List (List ℕ)) (received : Received) → Reads stream before received → UnderWay s n stream [] [] s.kept received
+  pub under_way_begins : (before : List (List ℕ)) (received : Received) → ReadsRecords stream before received → UnderWay s n stream [] [] s.kept received
   under_way_begins before received read = record {
     before = before;
     part = received;
     records = [];
     read = read;
-    goes_on = subst (λ (t : List ℕ). Reads t (before ++ []) received) (sym (append-nil stream)) (subst (λ (t : List (List ℕ)). Reads stream t received) (sym (append-nil before)) read);
+    goes_on = subst (λ (t : List ℕ). ReadsRecords t (before ++ []) received) (sym (append-nil stream)) (subst (λ (t : List (List ℕ)). ReadsRecords stream t received) (sym (append-nil before)) read);
     handled = λ all. (refl, refl);
   }
 
@@ -128,13 +130,13 @@ module _ {S : Type 0} (g : Ghosts S) (s : State) (n : ℕ) (stream : List ℕ) (
       → GoesOn old bytes records new → ((all : List ℕ) → StepRecords Scarce n records (fed s n all kept) further (fed s n all later)) → UnderWay s n stream (done ++ bytes) (outs ++ further) later new
   further_under_way done bytes outs further kept later old new records u goes step =
       let read = goes (stream ++ done) (u.before ++ u.records) u.goes_on in
-      let text_read : Reads (stream ++ (done ++ bytes)) ((u.before ++ u.records) ++ records) new = subst (λ (t : List ℕ). Reads t ((u.before ++ u.records) ++ records) new) (append_assoc stream done bytes) read in
+      let text_read : ReadsRecords (stream ++ (done ++ bytes)) ((u.before ++ u.records) ++ records) new = subst (λ (t : List ℕ). ReadsRecords t ((u.before ++ u.records) ++ records) new) (append_assoc stream done bytes) read in
       record {
         before = u.before;
         part = u.part;
         records = u.records ++ records;
         read = u.read;
-        goes_on = subst (λ (t : List (List ℕ)). Reads (stream ++ (done ++ bytes)) t new) (append_assoc u.before u.records records) text_read;
+        goes_on = subst (λ (t : List (List ℕ)). ReadsRecords (stream ++ (done ++ bytes)) t new) (append_assoc u.before u.records records) text_read;
         handled = λ all. records_then Scarce n u.records records (with_session s n (Open all)) outs (fed s n all kept) further (fed s n all later) (u.handled all) (step all);
       }
 
@@ -147,7 +149,7 @@ module _ {S : Type 0} (g : Ghosts S) (s : State) (n : ℕ) (stream : List ℕ) (
       → ServesFor g after e (with_kept s kept) × WentOn g d e kept.mark kept
   rested kept before after d e rests serves = (
     subst (λ (x : ServiceView). ServesFor g x e (with_kept s kept)) (sym rests.0) (subst (λ (x : S). ServesFor g before x (with_kept s kept)) (sym rests.1) serves),
-    subst (λ (x : S). WentOn g d x kept.mark kept) (sym rests.1) (went_nowhere g kept d serves.kept),
+    subst (λ (x : S). WentOn g d x kept.mark kept) (sym rests.1) (went_nowhere g s.epoch kept before.journal d serves.invariant),
   )
 
   -- a record that leaves the session open, whatever else its stream has
@@ -167,7 +169,7 @@ module _ {S : Type 0} (g : Ghosts S) (s : State) (n : ℕ) (stream : List ℕ) (
       let by = answers.each (with_kept s kept) serves in (
         by.0,
         by.2,
-        further_under_way done bytes outs further kept by.0 old new (text ∷ []) u (λ t r h. subst (λ (x : Received). Reads (t ++ bytes) (r ++ text ∷ []) x) (sym empty) (goes t r h))
+        further_under_way done bytes outs further kept by.0 old new (text ∷ []) u (λ t r h. subst (λ (x : Received). ReadsRecords (t ++ bytes) (r ++ text ∷ []) x) (sym empty) (goes t r h))
             (goes_by text reply further kept by.0 (sym is ∙ holds) out by.1),
         by.3,
       )
@@ -191,7 +193,7 @@ module _ {S : Type 0} (g : Ghosts S) (s : State) (n : ℕ) (stream : List ℕ) (
   Closes_by done outs later = (payload rest : List ℕ) → AreBytes payload → payload ≡ done ++ rest → StepBytes Scarce (Open stream) n payload s outs (closed s n later)
 
   closed_ends : (done : List ℕ) (before got : List (List ℕ)) (part received : Received) (outs : List OutFrame) (kept : Kept) → AreBytes stream
-      → Reads stream before part → Reads (stream ++ done) (before ++ got) received → ((all : List ℕ) → StepRecords Scarce n got (with_session s n (Open all)) outs (closed s n kept)) → Closes_by done outs kept
+      → ReadsRecords stream before part → ReadsRecords (stream ++ done) (before ++ got) received → ((all : List ℕ) → StepRecords Scarce n got (with_session s n (Open all)) outs (closed s n kept)) → Closes_by done outs kept
   closed_ends done before got part received outs kept fits read goes_on steps payload rest more_fit e =
       let c = completed stream payload done rest before got part received fits more_fit e read goes_on in
       let begun : State = with_session s n (Open (stream ++ payload)) in
@@ -221,8 +223,8 @@ module _ {S : Type 0} (g : Ghosts S) (s : State) (n : ℕ) (stream : List ℕ) (
       let rest_read = closed_reads_on ((stream ++ done) ++ bytes) rest ((u.before ++ u.records) ++ []) end.bytes end.progress read not_open in
       let text_is : ((stream ++ done) ++ bytes) ++ rest ≡ stream ++ payload =
       ap (λ (t : List ℕ). t ++ rest) (append_assoc stream done bytes) ∙ append_assoc stream (done ++ bytes) rest ∙ ap (λ (t : List ℕ). stream ++ t) (sym parts) in
-      let whole_read : Reads (stream ++ payload) (u.before ++ u.records) end =
-      subst (λ (t : List (List ℕ)). Reads (stream ++ payload) t end) (append-nil (u.before ++ u.records)) (subst (λ (t : List ℕ). Reads t ((u.before ++ u.records) ++ []) end) text_is rest_read) in
+      let whole_read : ReadsRecords (stream ++ payload) (u.before ++ u.records) end =
+      subst (λ (t : List (List ℕ)). ReadsRecords (stream ++ payload) t end) (append-nil (u.before ++ u.records)) (subst (λ (t : List ℕ). ReadsRecords t ((u.before ++ u.records) ++ []) end) text_is rest_read) in
       let at : State = fed s n (stream ++ payload) kept in
       let closes : Closes n at further (closed s n kept) = (out, sym (closed_is s n (stream ++ payload) kept)) in
       let step : StepProgress n end.progress at further (closed s n kept) =
@@ -237,8 +239,8 @@ module _ {S : Type 0} (g : Ghosts S) (s : State) (n : ℕ) (stream : List ℕ) (
       let steps : (all : List ℕ) → StepRecords Scarce n (u.records ++ text ∷ []) (with_session s n (Open all)) (outs ++ further) (closed s n by.0) =
       λ all. records_then Scarce n u.records (text ∷ []) (with_session s n (Open all)) outs (fed s n all kept) further (closed s n by.0) (u.handled all) (closes_record text reply further kept by.0 (sym is ∙ holds) out by.1 all) in
       let read = goes (stream ++ done) (u.before ++ u.records) u.goes_on in
-      let text_read : Reads (stream ++ (done ++ bytes)) ((u.before ++ u.records) ++ text ∷ []) nothing = subst (λ (t : List ℕ). Reads t ((u.before ++ u.records) ++ text ∷ []) nothing) (append_assoc stream done bytes) read in
-      let got_read : Reads (stream ++ (done ++ bytes)) (u.before ++ (u.records ++ text ∷ [])) nothing = subst (λ (t : List (List ℕ)). Reads (stream ++ (done ++ bytes)) t nothing) (append_assoc u.before u.records (text ∷ [])) text_read in
+      let text_read : ReadsRecords (stream ++ (done ++ bytes)) ((u.before ++ u.records) ++ text ∷ []) nothing = subst (λ (t : List ℕ). ReadsRecords t ((u.before ++ u.records) ++ text ∷ []) nothing) (append_assoc stream done bytes) read in
+      let got_read : ReadsRecords (stream ++ (done ++ bytes)) (u.before ++ (u.records ++ text ∷ [])) nothing = subst (λ (t : List (List ℕ)). ReadsRecords (stream ++ (done ++ bytes)) t nothing) (append_assoc u.before u.records (text ∷ [])) text_read in
       (by.0, by.2, closed_ends (done ++ bytes) u.before (u.records ++ text ∷ []) u.part nothing (outs ++ further) by.0 fits u.read got_read steps, by.3)
   under_way_closes done bytes outs further kept before after d e old new stays holds fits serves u (too_long end goes long out is rests) =
       let r = rested kept before after d e rests serves in
@@ -290,19 +292,19 @@ given_part_one a b f part = subst (λ (bytes : List ℕ). GivenPart a b bytes) (
 module _ {S : Type 0} (g : Ghosts S) where
   -- a record ended, and was answered
   pub feeds_message : (n : ℕ) (before after : ServiceView) (d e : S) (old received : Received) (bytes text : List ℕ) (reply : Option (List ℕ)) (answer : Fed) (stays : Bool) → answer ≡ fed_as.Message
-      → ((stream : List ℕ) (records : List (List ℕ)) → Reads stream records old → FedReads answer (stream ++ bytes) records received) → text ≡ received.bytes
+      → ((stream : List ℕ) (records : List (List ℕ)) → ReadsRecords stream records old → FedReads answer (stream ++ bytes) records received) → text ≡ received.bytes
       → Answers g before d text reply after e → stays ≡ is_some reply → Feeds g n before d old bytes (frame_for n reply ∷ []) stays after e nothing
   feeds_message n before after d e old received bytes text reply fed_as.Message stays is reads same answers said =
-      answered text reply (λ stream records h. subst (λ (t : List ℕ). Reads (stream ++ bytes) (records ++ t ∷ []) nothing) (sym same) (reads stream records h)) refl answers refl said
+      answered text reply (λ stream records h. subst (λ (t : List ℕ). ReadsRecords (stream ++ bytes) (records ++ t ∷ []) nothing) (sym same) (reads stream records h)) refl answers refl said
   feeds_message n before after d e old received bytes text reply fed_as.More stays is reads same answers said = absurd cc
   feeds_message n before after d e old received bytes text reply fed_as.TooLong stays is reads same answers said = absurd cc
 
   -- a record ended, and a call of the disk failed for it
   pub fails_message : (before : ServiceView) (d e : S) (old received : Received) (bytes text : List ℕ) (answer : Fed) → answer ≡ fed_as.Message
-      → ((stream : List ℕ) (records : List (List ℕ)) → Reads stream records old → FedReads answer (stream ++ bytes) records received) → text ≡ received.bytes
+      → ((stream : List ℕ) (records : List (List ℕ)) → ReadsRecords stream records old → FedReads answer (stream ++ bytes) records received) → text ≡ received.bytes
       → Fails g before d text e → FeedFails g before d old bytes e
   fails_message before d e old received bytes text fed_as.Message is reads same fails =
-      record { text = text; goes_on = λ stream records h. subst (λ (t : List ℕ). Reads (stream ++ bytes) (records ++ t ∷ []) nothing) (sym same) (reads stream records h); fails = fails }
+      record { text = text; goes_on = λ stream records h. subst (λ (t : List ℕ). ReadsRecords (stream ++ bytes) (records ++ t ∷ []) nothing) (sym same) (reads stream records h); fails = fails }
   fails_message before d e old received bytes text fed_as.More is reads same fails = absurd cc
   fails_message before d e old received bytes text fed_as.TooLong is reads same fails = absurd cc
 
@@ -314,10 +316,10 @@ too_long_at TooLong e = refl
 
 -- a record was too long
 pub feeds_too_long : {S : Type 0} (g : Ghosts S) (n : ℕ) (service : ServiceView) (d : S) (old received : Received) (bytes : List ℕ) (answer : Fed) → answer ≡ fed_as.TooLong → answer ≡ answer_at received.progress
-    → ((stream : List ℕ) (records : List (List ℕ)) → Reads stream records old → FedReads answer (stream ++ bytes) records received)
+    → ((stream : List ℕ) (records : List (List ℕ)) → ReadsRecords stream records old → FedReads answer (stream ++ bytes) records received)
     → Feeds g n service d old bytes (frame.Closed n ∷ []) false service d received
 feeds_too_long g n service d old received bytes fed_as.TooLong is at reads =
-    too_long received (λ stream records h. subst (λ (r : List (List ℕ)). Reads (stream ++ bytes) r received) (sym (append-nil records)) (reads stream records h).1) (too_long_at received.progress (sym at)) refl refl (refl, refl)
+    too_long received (λ stream records h. subst (λ (r : List (List ℕ)). ReadsRecords (stream ++ bytes) r received) (sym (append-nil records)) (reads stream records h).1) (too_long_at received.progress (sym at)) refl refl (refl, refl)
 feeds_too_long g n service d old received bytes fed_as.Message is at reads = absurd cc
 feeds_too_long g n service d old received bytes fed_as.More is at reads = absurd cc
 
@@ -329,10 +331,10 @@ open_at TooLong e = absurd cc
 
 -- no record ended
 pub feeds_more : {S : Type 0} (g : Ghosts S) (n : ℕ) (service : ServiceView) (d : S) (old received : Received) (bytes : List ℕ) (answer : Fed) → answer ≡ fed_as.More → answer ≡ answer_at received.progress
-    → ((stream : List ℕ) (records : List (List ℕ)) → Reads stream records old → FedReads answer (stream ++ bytes) records received)
+    → ((stream : List ℕ) (records : List (List ℕ)) → ReadsRecords stream records old → FedReads answer (stream ++ bytes) records received)
     → Feeds g n service d old bytes [] true service d received
 feeds_more g n service d old received bytes fed_as.More is at reads =
-    more (λ stream records h. subst (λ (r : List (List ℕ)). Reads (stream ++ bytes) r received) (sym (append-nil records)) (reads stream records h).1) (open_at received.progress (sym at)) refl refl (refl, refl)
+    more (λ stream records h. subst (λ (r : List (List ℕ)). ReadsRecords (stream ++ bytes) r received) (sym (append-nil records)) (reads stream records h).1) (open_at received.progress (sym at)) refl refl (refl, refl)
 feeds_more g n service d old received bytes fed_as.Message is at reads = absurd cc
 feeds_more g n service d old received bytes fed_as.TooLong is at reads = absurd cc
 

@@ -1,15 +1,18 @@
 -- Laws of frames: each but the end has a step where streams and payloads are of bytes, and only one; so do lists of frames.
-use Rattle.std.proofs.Common.{◌≡◌, ℕ, Bool, true, Option, Some, None, List, [], ◌∷◌, ◌++◌, inl, inr, refl, sym, ap, subst, ◌∙◌}
+use Rattle.std.proofs.Common.{◌≡◌, ◌+◌, ◌<◌, ℕ, suc, Bool, true, Option, Some, None, List, [], ◌∷◌, ◌++◌, inl, inr, refl, sym, ap, subst, ◌∙◌}
 use Rattle.std.proofs.lemmas.Bool.{true≢false}
 use Rattle.std.specs.List.{AllByRecursion}
 use Rattle.sky_record.specs.Stream.{Progress, AtHeader, InFragment, Whole, TooLong, Received}
 use Rattle.sky_record.proofs.Reading.{completes_some, completes_one}
 use Rattle.sky_script.specs.Frame as frame
 use Rattle.sky_script.specs.Frame.{InFrame, OutFrame, Counted, session_count}
-use Rattle.sky_world.specs.Bytes.{AreBytes, HasBytes, HasByteStreams, CarriesBytes}
+use Rattle.sky_xdr.specs.Encoding.{AreBytes}
+use Rattle.sky_xdr.proofs.Numbers.{AreBytes-append, AreBytes-zeros}
+use Rattle.sky_world.specs.Bytes.{HasBytes, HasByteStreams, CarriesBytes}
 use Rattle.sky_recover.specs.Opening.{Found}
 use Rattle.sky_world.specs.Laws.{IsForeseen}
-use Rattle.sky_world.specs.Meaning.{State, Session, Absent, Open, Closed, Memory, Ample, start, stats_of, opening, Restarts, as_known, untold, covered_found, kept_found, after_reply, session_at, with_kept, with_session, ended, Then, Closes, StepRecord, StepRecords, StepProgress, StepBytes, Step, Steps, IsStep}
+use Rattle.sky_sound.specs.Kept.{Kept}
+use Rattle.sky_world.specs.Meaning.{State, Session, Absent, Open, Closed, Supply, Ample, start, stats_of, opened_state, opening_of, Restarts, as_known, untold, given_up, reopened, after_reply, session_at, with_kept, with_session, ended, Then, Closes, StepRecord, StepRecords, StepProgress, StepBytes, Step, Steps, IsStep}
 use Rattle.sky_world.proofs.SiteLaws.{step_tells}
 use Rattle.sky_world.proofs.SessionLaws.{all-replicate, all-set, all-at}
 use Rattle.sky_world.proofs.StepLaws.{open_or_not, of_open, of_closed, records_some, progress_some, IsOne, both, passes_one, then_one, records_one, progress_one}
@@ -29,11 +32,11 @@ reply_keeps : (n : ℕ) (reply : Option (List ℕ)) (s : State) → HasByteStrea
 reply_keeps n None s h = all-set HasBytes s.sessions n Closed h tt
 reply_keeps n (Some bytes) s h = h
 
-record_keeps : (mem : Memory) (n : ℕ) (bytes : List ℕ) → Keeps (StepRecord mem n bytes)
+record_keeps : (mem : Supply) (n : ℕ) (bytes : List ℕ) → Keeps (StepRecord mem n bytes)
 unfolding Keeps
 record_keeps mem n bytes s outs new does h = stays (after_reply n does.reply (with_kept s does.after)) new does.leads (reply_keeps n does.reply (with_kept s does.after) h)
 
-records_keep : (mem : Memory) (n : ℕ) (records : List (List ℕ)) → Keeps (StepRecords mem n records)
+records_keep : (mem : Supply) (n : ℕ) (records : List (List ℕ)) → Keeps (StepRecords mem n records)
 unfolding Keeps
 records_keep mem n [] s outs new does h = stays s new does.1 h
 records_keep mem n (bytes ∷ records) s outs new does h =
@@ -56,19 +59,20 @@ progress_keeps n TooLong s outs new does h =
 
 -- ---- each frame has a step
 
-pub bytes-append : (xs ys : List ℕ) → AreBytes xs → AreBytes ys → AreBytes (xs ++ ys)
-bytes-append [] ys p q = q
-bytes-append (x ∷ xs) ys p q = (p.0, bytes-append xs ys p.1 q)
+-- bytes are bytes one by one
+pub each_byte : (xs : List ℕ) → AreBytes xs → AllByRecursion (λ (n : ℕ). n < 256) xs
+each_byte [] h = tt
+each_byte (x ∷ xs) h = (h 0, each_byte xs (λ i. h (suc i)))
 
 abbrev HasStep : (State → List OutFrame → State → Type 0) → State → Type 0
 HasStep Does s = (outs : List OutFrame) × (new : State) × HasByteStreams new × Does s outs new
 
-bytes_some : (mem : Memory) (x : Session) (n : ℕ) (payload : List ℕ) (s : State) → HasBytes x → AreBytes payload → HasByteStreams s → HasStep (StepBytes mem x n payload) s
+bytes_some : (mem : Supply) (x : Session) (n : ℕ) (payload : List ℕ) (s : State) → HasBytes x → AreBytes payload → HasByteStreams s → HasStep (StepBytes mem x n payload) s
 unfolding Keeps
 bytes_some mem (Open stream) n payload s has more h =
-    let c = completes_some stream payload has more in
+    let c = completes_some stream payload (each_byte stream has) (each_byte payload more) in
     let fed : State = with_session s n (Open (stream ++ payload)) in
-    let fed_has : HasByteStreams fed = all-set HasBytes s.sessions n (Open (stream ++ payload)) h (bytes-append stream payload has more) in
+    let fed_has : HasByteStreams fed = all-set HasBytes s.sessions n (Open (stream ++ payload)) h (AreBytes-append stream payload has more) in
     let first = records_some mem n c.0 fed in
     let second = progress_some n c.1.progress first.1 in
     let mid_has = records_keep mem n c.0 fed first.0 first.1 first.2 fed_has in
@@ -82,20 +86,21 @@ ended_has (Open stream) h = tt
 ended_has Closed h = tt
 
 -- at a restart no session has begun
-reopens_some : (known : Found) (s : State) → s.told ≡ true → HasStep (λ (x : State). Restarts x known) s
+reopens_some : (known : Kept) (s : State) → s.told ≡ true → HasStep (λ (x : State). Restarts x known) s
 reopens_some known s told =
-    (opening known ∷ [], record (start s.told known) { moment = s.moment }, all-replicate HasBytes session_count Absent tt, as_known told (refl, refl))
+    let next : State = opened_state s.told (s.epoch + 1) s.moment known in
+    (opening_of next ∷ [], next, all-replicate HasBytes session_count Absent tt, as_known told refl refl)
 
-pub step_some : (mem : Memory) (old : State) (f : InFrame) → HasByteStreams old → CarriesBytes f → IsForeseen old.told f → IsStep f → (outs : List OutFrame) × (new : State) × HasByteStreams new × Step mem old f outs new
-step_some mem old (frame.Begin n) h carries seen is = ([], with_session old n (Open []), all-set HasBytes old.sessions n (Open []) h tt, (refl, refl))
+pub step_some : (mem : Supply) (old : State) (f : InFrame) → HasByteStreams old → CarriesBytes f → IsForeseen old.told f → IsStep f → (outs : List OutFrame) × (new : State) × HasByteStreams new × Step mem old f outs new
+step_some mem old (frame.Begin n) h carries seen is = ([], with_session old n (Open []), all-set HasBytes old.sessions n (Open []) h (AreBytes-zeros 0), (refl, refl))
 step_some mem old (frame.Bytes n payload) h carries seen is = bytes_some mem (session_at old n) n payload old (all-at HasBytes old.sessions n Absent h tt) carries h
 step_some mem old (frame.Close n) h carries seen is =
     let x : Session = ended (session_at old n) in
     ([], with_session old n x, all-set HasBytes old.sessions n x h (ended_has (session_at old n) (all-at HasBytes old.sessions n Absent h tt)), (refl, refl))
 step_some mem old (frame.SetMoment at) h carries seen is = ([], record old { moment = at }, h, (refl, refl))
 step_some mem old frame.Stat h carries seen is = (Counted (stats_of old) ∷ [], old, h, (refl, refl))
-step_some mem old frame.Restart h carries seen is = reopens_some (kept_found old) old seen
-step_some mem old frame.RestartWithoutJournal h carries seen is = reopens_some (covered_found old) old seen
+step_some mem old frame.Restart h carries seen is = reopens_some (reopened old.kept) old seen
+step_some mem old frame.RestartWithoutJournal h carries seen is = reopens_some (given_up old.kept) old seen
 step_some mem old frame.End h carries seen is = absurd is
 
 -- ---- and only one
@@ -112,10 +117,12 @@ bytes_one Absent n payload s a b t u p q = passes_one s a b t u p q
 bytes_one Closed n payload s a b t u p q = passes_one s a b t u p q
 
 -- a restart of a site that tells what it has finds one thing
-restarts_one : (known : Found) (s : State) (a b : List OutFrame) (t u : State) → s.told ≡ true → Restarts s known a t → Restarts s known b u → (a ≡ b) × (t ≡ u)
-restarts_one known s a b t u told (as_known x p) (as_known y q) = both s a b (opening known ∷ []) t u (record (start s.told known) { moment = s.moment }) p q
-restarts_one known s a b t u told (untold found silent may p) other = absurd (true≢false (sym told ∙ silent))
-restarts_one known s a b t u told (as_known x p) (untold found silent may q) = absurd (true≢false (sym told ∙ silent))
+restarts_one : (known : Kept) (s : State) (a b : List OutFrame) (t u : State) → s.told ≡ true → Restarts s known a t → Restarts s known b u → (a ≡ b) × (t ≡ u)
+restarts_one known s a b t u told (as_known x p said) (as_known y q too) =
+    let same : t ≡ u = p ∙ sym q in
+    (said ∙ ap (λ (n : State). opening_of n ∷ []) same ∙ sym too, same)
+restarts_one known s a b t u told (untold found silent may p said) other = absurd (true≢false (sym told ∙ silent))
+restarts_one known s a b t u told (as_known x p said) (untold found silent may q too) = absurd (true≢false (sym told ∙ silent))
 
 pub step_one : (old : State) (f : InFrame) (outs others : List OutFrame) (new other : State) → IsForeseen old.told f → Step Ample old f outs new → Step Ample old f others other → (outs ≡ others) × (new ≡ other)
 step_one old (frame.Begin n) a b t u seen p q = both old a b [] t u (with_session old n (Open [])) p q
@@ -123,8 +130,8 @@ step_one old (frame.Bytes n payload) a b t u seen p q = bytes_one (session_at ol
 step_one old (frame.Close n) a b t u seen p q = both old a b [] t u (with_session old n (ended (session_at old n))) p q
 step_one old (frame.SetMoment at) a b t u seen p q = both old a b [] t u (record old { moment = at }) p q
 step_one old frame.Stat a b t u seen p q = both old a b (Counted (stats_of old) ∷ []) t u old p q
-step_one old frame.Restart a b t u seen p q = restarts_one (kept_found old) old a b t u seen p q
-step_one old frame.RestartWithoutJournal a b t u seen p q = restarts_one (covered_found old) old a b t u seen p q
+step_one old frame.Restart a b t u seen p q = restarts_one (reopened old.kept) old a b t u seen p q
+step_one old frame.RestartWithoutJournal a b t u seen p q = restarts_one (given_up old.kept) old a b t u seen p q
 step_one old frame.End a b t u seen p q = absurd p
 
 -- ---- frames, one after the other
@@ -133,7 +140,7 @@ step_one old frame.End a b t u seen p q = absurd p
 seen_at : (told now : Bool) (f : InFrame) → now ≡ told → IsForeseen told f → IsForeseen now f
 seen_at told now f e seen = subst (λ (b : Bool). IsForeseen b f) (sym e) seen
 
-steps_some : (told : Bool) (mem : Memory) (s : State) (frames : List InFrame) → s.told ≡ told → HasByteStreams s → AllByRecursion (λ f. IsStep f × CarriesBytes f × IsForeseen told f) frames
+steps_some : (told : Bool) (mem : Supply) (s : State) (frames : List InFrame) → s.told ≡ told → HasByteStreams s → AllByRecursion (λ f. IsStep f × CarriesBytes f × IsForeseen told f) frames
     → (outs : List OutFrame) × (last : State) × Steps mem s frames outs last
 steps_some told mem s [] same h all = ([], s, (refl, refl))
 steps_some told mem s (f ∷ frames) same h all =
@@ -141,7 +148,7 @@ steps_some told mem s (f ∷ frames) same h all =
     let rest = steps_some told mem first.1 frames (step_tells mem s first.1 f first.0 first.3 ∙ same) first.2 all.1 in
     (first.0 ++ rest.0, rest.1, (first.1, first.0, rest.0, first.3, rest.2, refl))
 
-pub frames_some : (told : Bool) (found : Found) (mem : Memory) (frames : List InFrame) → AllByRecursion (λ f. IsStep f × CarriesBytes f × IsForeseen told f) frames
+pub frames_some : (told : Bool) (found : Found) (mem : Supply) (frames : List InFrame) → AllByRecursion (λ f. IsStep f × CarriesBytes f × IsForeseen told f) frames
     → (outs : List OutFrame) × (last : State) × Steps mem (start told found) frames outs last
 frames_some told found mem frames all = steps_some told mem (start told found) frames refl (all-replicate HasBytes session_count Absent tt) all
 

@@ -1,15 +1,12 @@
 -- Laws of the history, and of want of memory.
 use Rattle.std.specs.Prelude.{cond}
-use Rattle.std.proofs.Common.{◌≡◌, ℕ, zero, suc, ◌-◌, take, Bool, true, false, ◌&&◌, Option, Some, None, List, [], ◌∷◌, ◌++◌, inl, inr, refl, sym, ap, subst, ◌∙◌, append_assoc}
+use Rattle.std.proofs.Common.{◌≡◌, ℕ, zero, suc, ◌-◌, take, Bool, true, false, ◌&&◌, Option, Some, None, List, [], ◌∷◌, ◌++◌, length, inl, inr, refl, sym, ap, subst, ◌∙◌, append_assoc}
 use Rattle.std.proofs.lemmas.List.{append-nil}
 use Rattle.sky_base.specs.declared.cred.Cred.{Cred}
 use Rattle.sky_base.specs.declared.moment.Moment.{Moment}
 use Rattle.sky_nfs.specs.History.{History, IsLegalHistory, last_tree, tree_after_change, tree_after_changes, is_done, are_done}
 use Rattle.sky_nfs.specs.Tree.{Tree}
-use Rattle.sky_calls.specs.Durable.{journal_after}
-use Rattle.sky_calls.specs.Stable.{is_stable_call}
 use Rattle.sky_entry.specs.Entry.{entry_bytes}
-use Rattle.sky_journal.specs.Journal.{JournalView, after_commit, wiped}
 use Rattle.sky_nfs.specs.declared.call.Call.{Call}
 use Rattle.sky_nfs.specs.declared.call.Change.{Change}
 use Rattle.sky_record.specs.Stream.{Progress, AtHeader, InFragment, Whole, TooLong}
@@ -17,7 +14,8 @@ use Rattle.sky_script.specs.Frame as frame
 use Rattle.sky_script.specs.Frame.{InFrame, OutFrame}
 use Rattle.sky_world.specs.Laws.{TellsOutOfMemory, NoneOutOfMemory, GoesOnFrom}
 use Rattle.sky_world.specs.World.{IsRestart}
-use Rattle.sky_world.specs.Meaning.{State, Kept, Session, Absent, Open, Closed, Memory, Ample, Scarce, Answered, by_meaning, put_off, out_of_memory, after_call, after_message, after_reply, called_by, kept_after, makes_stable, service_of, session_at, with_change, with_kept, with_session, frame_for, Passes, Then, Closes, StepRecord, StepRecords, StepProgress, StepBytes, Restarts, as_known, untold, cut_to, found_to, Step, Steps}
+use Rattle.sky_world.specs.Meaning.{State, Session, Absent, Open, Closed, Supply, Ample, Scarce, Answered, by_meaning, put_off, out_of_memory, after_call, after_message, after_reply, called_by, kept_after, leaves_stable, length_after, service_of, session_at, with_change, with_kept, with_session, frame_for, Passes, Then, Closes, StepRecord, StepRecords, StepProgress, StepBytes, Restarts, as_known, untold, cut_to, kept_to, Step, Steps}
+use Rattle.sky_sound.specs.Kept.{JournalState, Kept, emptied, stored_to, with_waiting}
 use Rattle.sky_world.specs.Message as message
 use Rattle.sky_world.specs.Message.{Message, meaning_of}
 use Rattle.sky_world.specs.Service.{RunsOut}
@@ -74,31 +72,33 @@ module _ (h : History) (cred : Cred) (call : Call) (moment : Moment) where
       go true e = rw e (change ∷ [], refl)
       go false e = rw e (goes_on_same h h refl)
 
-  call_legal : IsLegalHistory h → IsLegalHistory (after_call h cred call moment)
+  pub call_legal : IsLegalHistory h → IsLegalHistory (after_call h cred call moment)
   call_legal legal = go (is_done (last_tree h) change) refl
     where
       go : (b : Bool) → is_done (last_tree h) change ≡ b → IsLegalHistory (after_call h cred call moment)
       go true e = rw e (legal_with h change e legal)
       go false e = rw e legal
 
--- the history goes on, in a journal of the same volume and size
+-- the history goes on, in a journal with areas of the same size, and no more is completed
 abbrev pub GoesOnIn : Kept → Kept → Type 0
-GoesOnIn k l = GoesOnFrom k.history l.history × (l.journal.volume ≡ k.journal.volume) × (l.journal.size ≡ k.journal.size)
+GoesOnIn k l = GoesOnFrom k.history l.history × (l.journal.size ≡ k.journal.size) × (l.completed ≡ k.completed)
 
-journal_same : (done stable makes : Bool) (j : JournalView) (e : List ℕ)
-    → (let k : JournalView = cond done (journal_after stable j e) (cond makes (after_commit j) j) in (k.volume ≡ j.volume) × (k.size ≡ j.size))
-journal_same true true makes j e = (refl, refl)
-journal_same true false makes j e = (refl, refl)
-journal_same false stable true j e = (refl, refl)
-journal_same false stable false j e = (refl, refl)
+size_same : (done stable : Bool) (number entry : ℕ) (j : JournalState)
+    → (let waits : JournalState = cond done (with_waiting entry j) j in let k : JournalState = cond stable (stored_to number waits) waits in k.size ≡ j.size)
+size_same true true number entry j = refl
+size_same true false number entry j = refl
+size_same false true number entry j = refl
+size_same false false number entry j = refl
 
 pub call_goes_on_in : (kept : Kept) (change : Change) → GoesOnIn kept (kept_after kept change)
-call_goes_on_in kept change =
-    let same = journal_same (is_done (last_tree kept.history) change) (is_stable_call change.call) (makes_stable (last_tree kept.history) change.cred change.call) kept.journal (entry_bytes change) in
-    (call_goes_on kept.history change.cred change.call change.moment, same.0, same.1)
+call_goes_on_in kept change = (
+  call_goes_on kept.history change.cred change.call change.moment,
+  size_same (is_done (last_tree kept.history) change) (leaves_stable (last_tree kept.history) change) (length_after kept change) (length (entry_bytes change)) kept.journal,
+  refl,
+)
 
 kept_goes_on : (h k : Kept) → k ≡ h → GoesOnIn h k
-kept_goes_on h k e = (goes_on_same h.history k.history (ap (λ (x : Kept). x.history) e), ap (λ (x : Kept). x.journal.volume) e, ap (λ (x : Kept). x.journal.size) e)
+kept_goes_on h k e = (goes_on_same h.history k.history (ap (λ (x : Kept). x.history) e), ap (λ (x : Kept). x.journal.size) e, ap (λ (x : Kept). x.completed) e)
 
 kept_goes_then : (h k l : Kept) → GoesOnIn h k → GoesOnIn k l → GoesOnIn h l
 kept_goes_then h k l p q = (goes_on_then h.history k.history l.history p.0 q.0, q.1 ∙ p.1, q.2 ∙ p.2)
@@ -117,7 +117,7 @@ message_legal s (message.Nfs xid cred call) legal = call_legal s.kept.history cr
 
 -- a fact that holds of each record holds of each frame
 module _ (R : Kept → Kept → Type 0) (same : (h k : Kept) → k ≡ h → R h k) (both : (h k l : Kept) → R h k → R k l → R h l)
-    (meant : (s : State) (m : Message) → R s.kept (after_message s m)) (mem : Memory) where
+    (meant : (s : State) (m : Message) → R s.kept (after_message s m)) (mem : Supply) where
   answered_leads : (s : State) (bytes : List ℕ) (reply : Option (List ℕ)) (h : Kept) → Answered mem s bytes reply h → R s.kept h
   answered_leads s bytes reply h (by_meaning room e f) = subst (λ (x : Kept). R s.kept x) (sym f) (meant s (meaning_of bytes))
   answered_leads s bytes reply h (put_off full e f) = same s.kept h f
@@ -180,45 +180,45 @@ module _ (R : Kept → Kept → Type 0) (same : (h k : Kept) → k ≡ h → R h
 abbrev StaysLegal : Kept → Kept → Type 0
 StaysLegal h k = IsLegalHistory h.history → IsLegalHistory k.history
 
-pub step_goes_on_in : (mem : Memory) (old new : State) (f : InFrame) (outs : List OutFrame) → (IsRestart f → ⊥) → Step mem old f outs new → GoesOnIn old.kept new.kept
+pub step_goes_on_in : (mem : Supply) (old new : State) (f : InFrame) (outs : List OutFrame) → (IsRestart f → ⊥) → Step mem old f outs new → GoesOnIn old.kept new.kept
 step_goes_on_in mem old new f outs plain step = step_leads GoesOnIn kept_goes_on kept_goes_then message_goes_on mem old f outs new plain step
 
-pub records_go_on_in : (mem : Memory) (n : ℕ) (records : List (List ℕ)) (old : State) (outs : List OutFrame) (new : State) → StepRecords mem n records old outs new → GoesOnIn old.kept new.kept
+pub records_go_on_in : (mem : Supply) (n : ℕ) (records : List (List ℕ)) (old : State) (outs : List OutFrame) (new : State) → StepRecords mem n records old outs new → GoesOnIn old.kept new.kept
 records_go_on_in mem n records old outs new steps = records_lead GoesOnIn kept_goes_on kept_goes_then message_goes_on mem n records old outs new steps
 
-pub progress_goes_on_in : (mem : Memory) (n : ℕ) (progress : Progress) (old : State) (outs : List OutFrame) (new : State) → StepProgress n progress old outs new → GoesOnIn old.kept new.kept
+pub progress_goes_on_in : (mem : Supply) (n : ℕ) (progress : Progress) (old : State) (outs : List OutFrame) (new : State) → StepProgress n progress old outs new → GoesOnIn old.kept new.kept
 progress_goes_on_in mem n progress old outs new step = progress_leads GoesOnIn kept_goes_on kept_goes_then message_goes_on mem n progress old outs new step
 
-pub step_goes_on : (mem : Memory) (old new : State) (f : InFrame) (outs : List OutFrame) → (IsRestart f → ⊥) → Step mem old f outs new → GoesOnFrom old.kept.history new.kept.history
+pub step_goes_on : (mem : Supply) (old new : State) (f : InFrame) (outs : List OutFrame) → (IsRestart f → ⊥) → Step mem old f outs new → GoesOnFrom old.kept.history new.kept.history
 step_goes_on mem old new f outs plain step = (step_goes_on_in mem old new f outs plain step).0
 
-legal_leads : (mem : Memory) (old : State) (f : InFrame) (outs : List OutFrame) (new : State) → (IsRestart f → ⊥) → Step mem old f outs new → IsLegalHistory old.kept.history → IsLegalHistory new.kept.history
+legal_leads : (mem : Supply) (old : State) (f : InFrame) (outs : List OutFrame) (new : State) → (IsRestart f → ⊥) → Step mem old f outs new → IsLegalHistory old.kept.history → IsLegalHistory new.kept.history
 legal_leads mem old f outs new plain step =
     step_leads StaysLegal (λ h k e legal. subst (λ (x : Kept). IsLegalHistory x.history) (sym e) legal) (λ h k l p q legal. q (p legal)) message_legal mem old f outs new plain step
 
 -- the history that a restart finds is legal
-restart_legal : (old : State) (n : ℕ) (read : JournalView) (outs : List OutFrame) (new : State) → Restarts old (found_to n read old) outs new → IsLegalHistory old.kept.history → IsLegalHistory new.kept.history
-restart_legal old n read outs new (as_known told is) legal = subst (λ (s : State). IsLegalHistory s.kept.history) (sym is.1) (cut_legal n old.kept.history legal)
-restart_legal old n read outs new (untold found not_told may is) legal = subst (λ (s : State). IsLegalHistory s.kept.history) (sym is.1) may.legal
+restart_legal : (old : State) (n : ℕ) (j : JournalState) (outs : List OutFrame) (new : State) → Restarts old (kept_to n j old.kept) outs new → IsLegalHistory old.kept.history → IsLegalHistory new.kept.history
+restart_legal old n j outs new (as_known told is said) legal = subst (λ (s : State). IsLegalHistory s.kept.history) (sym is) (cut_legal n old.kept.history legal)
+restart_legal old n j outs new (untold found not_told may is said) legal = subst (λ (s : State). IsLegalHistory s.kept.history) (sym is) may.legal
 
-pub step_legal : (mem : Memory) (old new : State) (f : InFrame) (outs : List OutFrame) → Step mem old f outs new → IsLegalHistory old.kept.history → IsLegalHistory new.kept.history
+pub step_legal : (mem : Supply) (old new : State) (f : InFrame) (outs : List OutFrame) → Step mem old f outs new → IsLegalHistory old.kept.history → IsLegalHistory new.kept.history
 step_legal mem old new (frame.Begin n) outs step = legal_leads mem old (frame.Begin n) outs new (λ r. r) step
 step_legal mem old new (frame.Bytes n payload) outs step = legal_leads mem old (frame.Bytes n payload) outs new (λ r. r) step
 step_legal mem old new (frame.Close n) outs step = legal_leads mem old (frame.Close n) outs new (λ r. r) step
 step_legal mem old new (frame.SetMoment at) outs step = legal_leads mem old (frame.SetMoment at) outs new (λ r. r) step
 step_legal mem old new frame.Stat outs step = legal_leads mem old frame.Stat outs new (λ r. r) step
-step_legal mem old new frame.Restart outs step = restart_legal old old.kept.mark old.kept.journal outs new step
-step_legal mem old new frame.RestartWithoutJournal outs step = restart_legal old old.kept.history.before (wiped old.kept.journal) outs new step
+step_legal mem old new frame.Restart outs step = restart_legal old old.kept.stored old.kept.journal outs new step
+step_legal mem old new frame.RestartWithoutJournal outs step = restart_legal old old.kept.completed (emptied old.kept.journal) outs new step
 step_legal mem old new frame.End outs step = absurd step
 
 -- ---- want of memory
 
 -- where there is memory for every call, a step is one of those that there may be
-abbrev May : (Memory → State → List OutFrame → State → Type 0) → Type 0
+abbrev May : (Supply → State → List OutFrame → State → Type 0) → Type 0
 May Does = (s : State) (outs : List OutFrame) (t : State) → Does Ample s outs t → Does Scarce s outs t
 
 -- and a step whose answers don't tell that there was none is one of them
-abbrev Told : (Memory → State → List OutFrame → State → Type 0) → Type 0
+abbrev Told : (Supply → State → List OutFrame → State → Type 0) → Type 0
 Told Does = (s : State) (outs : List OutFrame) (t : State) → Does Scarce s outs t → NoneOutOfMemory outs → Does Ample s outs t
 
 none_first : (xs ys : List OutFrame) → NoneOutOfMemory (xs ++ ys) → NoneOutOfMemory xs

@@ -12,7 +12,7 @@ pub mod CallLaws
 pub mod CarryLaws
 pub mod GoesLaws
 pub mod RestartLaws
-pub mod RecoverableLaws
+pub mod PartLaws
 pub mod FeedLaws
 pub mod ReplyLaws
 pub mod WithinLaws

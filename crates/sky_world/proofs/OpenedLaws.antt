@@ -1,12 +1,12 @@
 -- Laws of an opening, as the world takes it: what was found, and with which status it is refused.
 use Rattle.std.specs.Prelude.{IfErr}
-use Rattle.std.proofs.Common.{◌≡◌, ℕ, Result, Ok, Err, refl, sym, ap}
+use Rattle.std.proofs.Common.{◌≡◌, ℕ, ◌≤◌, Result, Ok, Err, refl, sym, ap}
 use Rattle.sky_base.specs.declared.place.Lost.TheVariants.{Damaged, Missing}
 use Rattle.sky_base.specs.declared.status.Status.{Status}
 use Rattle.sky_base.specs.declared.status.Status.TheVariants as status
 use Rattle.sky_calls.specs.Durable.{DurableView}
 use Rattle.sky_nfs.specs.History.{last_tree}
-use Rattle.sky_outside.specs.Count.{Counts}
+use Rattle.sky_outside.specs.Count.{Counts, Rose}
 use Rattle.sky_outside.specs.declared.storage.Storage.{Ghosts}
 use Rattle.sky_outside.proofs.CountLaws.{counts_weaker}
 use Rattle.sky_recover.specs.Opening.{Found, IsFoundOn, IsOpenOn, IsOpened, WhereBothTold, found_by}
@@ -61,6 +61,10 @@ left_as g s t Worn is = is
 pub left_sunk : {T S : Type 0} (r : Result T Status) (g : Ghosts S) (s t : S) → IfErr r (λ why. why ≡ status.SinkFault) → IfErr r (LeavesRefusedAs g s t)
 left_sunk (Ok x) g s t is = is
 left_sunk (Err why) g s t is = rw is tt
+
+-- how a count of faults went, by its parts
+pub counts_of : {failed : Type 0} (a b : ℕ) → a ≤ b → (failed → Rose a b) → ((failed → ⊥) → b ≡ a) → Counts a b failed
+counts_of a b grows cause quiet = record { grows = grows; cause = cause; quiet = quiet }
 
 -- which device is blamed
 disk_blamed : (fault : OpenFault) → status_of fault ≡ status.JournalFault → fault ≡ DiskFault

@@ -1,5 +1,5 @@
 -- Laws of the loop that handles a payload.
-use Rattle.std.proofs.Common.{◌≡◌, ℕ, suc, ◌+◌, ◌-◌, ◌<◌, ◌≤◌, Bool, true, false, Option, List, [], ◌∷◌, ◌++◌, length, take, drop, get_or, refl, sym, ap, subst, ◌∙◌, arith}
+use Rattle.std.proofs.Common.{◌≡◌, ℕ, ◌+◌, ◌-◌, ◌<◌, ◌≤◌, Bool, true, false, Option, List, [], ◌∷◌, ◌++◌, length, take, drop, refl, sym, ap, subst, ◌∙◌, arith}
 use Rattle.std.proofs.Math.Seq.{take-add}
 use Rattle.std.proofs.lemmas.List.{append-nil, take_all, take_rest, take-append-drop, length-drop, length-take}
 use Rattle.sky_outside.specs.Told.{Given, GivenPart}
@@ -8,20 +8,15 @@ use Rattle.sky_outside.specs.declared.storage.Storage.{Ghosts}
 use Rattle.sky_record.specs.Stream.{Received, nothing, IsOpen}
 use Rattle.sky_script.specs.Frame.{Bytes, OutFrame, out_frames}
 use Rattle.sky_world.specs.declared.sessions.Session.TheVariants as slot
-use Rattle.sky_world.specs.Bytes.{AreBytes}
+use Rattle.sky_xdr.specs.Encoding.{AreBytes}
+use Rattle.sky_xdr.proofs.Numbers.{AreBytes-append, AreBytes-take}
 use Rattle.sky_world.specs.Finding.{RecordUnderWay}
-use Rattle.sky_world.specs.Meaning.{State, Kept, Open, Closed, Scarce, Step, StepBytes, session_at, with_kept}
+use Rattle.sky_world.specs.Meaning.{State, Open, Closed, Scarce, Step, StepBytes, session_at, with_kept}
+use Rattle.sky_sound.specs.Kept.{Kept}
 use Rattle.sky_world.specs.Feeding.{Feeds, FeedFails, UnderWay, WentWithin, Handled, HandledPart, HandledDown}
 use Rattle.sky_world.specs.World.{ServiceView, ServesFor, SinkGot, StandsAt}
-use Rattle.sky_world.proofs.FrameLaws.{bytes-append}
 use Rattle.sky_world.proofs.FeedLaws.{closed, fed, feeds_one, feeds_open, under_way_begins, under_way_on, under_way_whole, under_way_closes, under_way_ends, under_way_down, frames_given, frames_given_part}
-use Rattle.sky_world.proofs.StorableLaws.{all_take}
 use Rattle.sky_world.proofs.WithinLaws.{as_step, kept_stable, under_way, within_begins, within_holds, within_now, within_went}
-
--- numbers that are bytes at each index are bytes
-pub are_bytes : (xs : List ℕ) → ((i : ℕ) → get_or xs i 0 < 256) → AreBytes xs
-are_bytes [] h = tt
-are_bytes (x ∷ xs) h = (h 0, are_bytes xs (λ i. h (suc i)))
 
 -- ---- what is left of a payload, and a prefix of that
 
@@ -50,7 +45,7 @@ got before after = record { before = before; after = after }
 
 -- a state with what it has
 same_state : {S : Type 0} (g : Ghosts S) (service : ServiceView) (d : S) (s : State) → ServesFor g service d s → ServesFor g service d (with_kept s s.kept)
-same_state g service d s serves = record { epoch = serves.epoch; tree = serves.tree; moment = serves.moment; journal = serves.journal; kept = serves.kept }
+same_state g service d s serves = record { epoch = serves.epoch; tree = serves.tree; moment = serves.moment; invariant = serves.invariant }
 
 pub so_far_begins : {S : Type 0} (g : Ghosts S) (number : ℕ) (first : ServiceView) (d : S) (initial : Received) (payload : List ℕ) (before : Option (List ℕ)) → IsOpen initial.progress
     → SoFar g number first d initial payload 0 first d initial (got before before)
@@ -62,7 +57,7 @@ so_far_begins g number first d initial payload before ready = record {
       let at_start : State = fed s number (stream ++ []) s.kept in
       let step : StepBytes Scarce (Open stream) number [] s [] at_start = under_way_whole g s number stream lt [] [] s.kept initial u ready in
       let under : RecordUnderWay s (Bytes number payload) = under_way s number stream payload open_is 0 0 (omega arith) [] [] at_start at_start step step (omega arith) in
-      ([], s.kept, same_state g first d s serves, u, Given-none before, within_begins g s (Bytes number payload) under d s.kept serves.kept refl refl);
+      ([], s.kept, same_state g first d s serves, u, Given-none before, within_begins g s (Bytes number payload) under d s.kept serves.invariant refl refl);
 }
 
 module _ {S : Type 0} (g : Ghosts S) (number : ℕ) (first : ServiceView) (d : S) (initial : Received) (payload : List ℕ) (taken : ℕ) (service : ServiceView) (e : S) (old : Received) (before mid after : Option (List ℕ))
@@ -78,7 +73,7 @@ module _ {S : Type 0} (g : Ghosts S) (number : ℕ) (first : ServiceView) (d : S
 
     -- its bytes are bytes
     piece_bytes : (count : ℕ) → AreBytes payload → AreBytes (take taken payload ++ take count (rest_of payload taken))
-    piece_bytes count fits = subst AreBytes (sym (next_part payload taken count)) (all_take (λ (n : ℕ). n < 256) (taken + count) payload fits)
+    piece_bytes count fits = subst AreBytes (sym (next_part payload taken count)) (AreBytes-take (taken + count) payload fits)
 
   pub so_far_on : (count : ℕ) (later : ServiceView) (f : S) (new : Received) (outs : List OutFrame) (stays : Bool) → stays ≡ true → IsOpen new.progress → count ≤ length (rest_of payload taken)
       → Feeds g number service e old (take count (rest_of payload taken)) outs stays later f new → Given mid after (out_frames outs) → SoFar g number first d initial payload (taken + count) later f new (got before after)
@@ -131,7 +126,7 @@ module _ {S : Type 0} (g : Ghosts S) (number : ℕ) (first : ServiceView) (d : S
         less = part.1;
         given = part.2;
         went = within_went g s (Bytes number payload) under d e f h.5 on.3;
-        stable = kept_stable g on.0 f on.1.kept;
+        stable = kept_stable g on.0 f on.1.invariant;
         rest = ends.0;
         last = ends.1;
         goes_on = as_step s number stream payload open_is payload ((h.0 ++ outs) ++ ends.0) ends.1 ends.2;
@@ -152,7 +147,7 @@ module _ {S : Type 0} (g : Ghosts S) (number : ℕ) (first : ServiceView) (d : S
         less = part.1;
         given = part.2;
         went = within_went g s (Bytes number payload) under d e f h.5 ends.3;
-        stable = kept_stable g ends.0 f ends.1.kept;
+        stable = kept_stable g ends.0 f ends.1.invariant;
         rest = [];
         last = next;
         goes_on = subst (λ (o : List OutFrame). Step Scarce s (Bytes number payload) o next) (sym (append-nil (h.0 ++ outs))) whole;
@@ -183,7 +178,7 @@ module _ {S : Type 0} (g : Ghosts S) (number : ℕ) (first : ServiceView) (d : S
       let next : State = fed s number (stream ++ payload) h.1 in
       let step = as_step s number stream payload open_is payload h.0 next (under_way_whole g s number stream lt payload h.0 h.1 old u so_far.ready) in
       let stands : StandsAt old (stream ++ payload) = record {
-        bytes = bytes-append stream payload at.bytes fits;
+        bytes = AreBytes-append stream payload at.bytes fits;
         goes_on = so_far.ready;
         records = u.before ++ u.records;
         read = u.goes_on;

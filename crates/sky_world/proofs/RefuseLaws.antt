@@ -1,73 +1,28 @@
 -- Laws of an opening that is refused, and of a restart that came to no end.
-use Rattle.std.proofs.Common.{◌≡◌, ℕ, ◌+◌, true, Option, Some, None, Ok, List, [], ◌∷◌, ◌++◌, inl, inr, refl, sym, ap, subst, ◌∙◌}
-use Rattle.std.proofs.lemmas.Bool.{and_parts, false_from_ne_true, true≢false}
+use Rattle.std.proofs.Common.{◌≡◌, ℕ, ◌+◌, true, List, inr, sym, subst, ◌∙◌}
+use Rattle.std.proofs.lemmas.Bool.{false_from_ne_true}
 use Rattle.sky_base.specs.declared.place.Lost.TheVariants as lost
 use Rattle.sky_base.specs.declared.status.Status.{Status}
 use Rattle.sky_base.specs.declared.status.Status.TheVariants.{JournalFault, Memory, CloudFault, Foreign, Missing, Damaged, Worn}
-use Rattle.sky_nfs.specs.History.{History, are_done, is_done, tree_after_change, tree_after_changes}
-use Rattle.sky_nfs.specs.Tree.{Tree}
-use Rattle.sky_nfs.specs.declared.call.Change.{Change}
 use Rattle.sky_outside.specs.CloudMap.{CloudMap}
 use Rattle.sky_outside.specs.Moments.{SameCloud}
 use Rattle.sky_outside.specs.declared.storage.Storage.{Ghosts}
 use Rattle.sky_outside.proofs.ToldLaws.{WhereTold-at}
 use Rattle.sky_recover.specs.Opening.{LeavesFound, WhereBothTold}
-use Rattle.sky_recover.specs.Refusals.{IsRefusedBy}
-use Rattle.sky_recover.specs.Replaying.{FailsAt, IsForeignAt}
+use Rattle.sky_recover.specs.Refusals.{IsOfDevices, IsRefusedBy}
+use Rattle.sky_recover.specs.declared.fault.OpenFault.{OpenFault}
 use Rattle.sky_recover.specs.declared.fault.OpenFault.TheVariants as fault
+use Rattle.sky_recover.proofs.Refused.{failed, sound_unrefused}
 use Rattle.sky_script.specs.Frame as frame
 use Rattle.sky_script.specs.Frame.{InFrame}
-use Rattle.sky_sound.specs.Cloud.{checkpoint_in, cloud_tree, covers_of, epoch_after}
-use Rattle.sky_sound.specs.Entries.{change_of, changes_in, entries_above, journal_of, with_change}
+use Rattle.sky_sound.specs.Cloud.{epoch_after}
 use Rattle.sky_sound.specs.Recovery.{IsSound}
-use Rattle.sky_sound.proofs.Above.{history_from_entries}
-use Rattle.sky_sound.proofs.Texts.{ok_same}
 use Rattle.sky_world.specs.Meaning.{State}
 use Rattle.sky_world.specs.Opening.{IsOfOpening, IsRefusedAs, MayRefuse}
-use Rattle.sky_world.specs.World.{IsBeside, RestartFailed, SinkGot, Stands, StepFailed, WorldView}
-use Rattle.sky_world.proofs.FindingLaws.{both_told_at, stands_sound}
+use Rattle.sky_world.specs.World.{RestartFailed, SinkGot, Stands, StepFailed, WorldView}
+use Rattle.sky_world.proofs.FindingLaws.{both_told_at, sound_now}
 use Rattle.sky_world.proofs.ReopenLaws.{Has, has_told, restart_leaves}
-use Rattle.sky_world.proofs.WipeLaws.{HoldsNone, LeavesWiped, bare_beside, bare_leaves, bare_sound, bare_tells, wipe_leaves}
-
--- ---- a sound site is foreign nowhere
-
-with_append : (o : Option Change) (xs ys : List Change) → with_change o (xs ++ ys) ≡ with_change o xs ++ ys
-with_append None xs ys = refl
-with_append (Some c) xs ys = refl
-
--- the changes of entries, of which this one is that of this change
-changes_split : (xs : List (ℕ × List ℕ)) (e : ℕ × List ℕ) (ys : List (ℕ × List ℕ)) (c : Change) → change_of e.1 ≡ Some c → changes_in (xs ++ e ∷ ys) ≡ changes_in xs ++ c ∷ changes_in ys
-changes_split [] e ys c is = ap (λ (o : Option Change). with_change o (changes_in ys)) is
-changes_split (x ∷ xs) e ys c is =
-    ap (λ (l : List Change). with_change (change_of x.1) l) (changes_split xs e ys c is) ∙ with_append (change_of x.1) (changes_in xs) (c ∷ changes_in ys)
-
--- where all changes are answered OK, so is each at its place
-done_at : (t : Tree) (xs : List Change) (c : Change) (ys : List Change) → are_done t (xs ++ c ∷ ys) ≡ true → is_done (tree_after_changes t xs) c ≡ true
-done_at t [] c ys all = (and_parts (is_done t c) (are_done (tree_after_change t c) ys) all).0
-done_at t (x ∷ xs) c ys all = done_at (tree_after_change t x) xs c ys (and_parts (is_done t x) (are_done (tree_after_change t x) (xs ++ c ∷ ys)) all).1
-
-none_fail : (start : Tree) (size covers : ℕ) (list : List (ℕ × List ℕ)) (image : List ℕ) (at : ℕ) → are_done start (changes_in (entries_above covers list)) ≡ true
-    → FailsAt start size covers list image at → ⊥
-none_fail start size covers list image at all fails =
-    let c : Change = fails.refused.change in
-    let split : changes_in (entries_above covers list) ≡ changes_in fails.before ++ c ∷ changes_in fails.behind =
-    ap (λ (l : List (ℕ × List ℕ)). changes_in l) fails.parts ∙ changes_split fails.before fails.entry fails.behind c fails.refused.change_is in
-    let done : is_done (tree_after_changes start (changes_in fails.before)) c ≡ true =
-    done_at start (changes_in fails.before) c (changes_in fails.behind) (ap (λ (l : List Change). are_done start l) (sym split) ∙ all) in
-    true≢false (sym done ∙ fails.refused.refused)
-
-pub not_foreign : (volume size : ℕ) (image : List ℕ) (objects : CloudMap) (at : ℕ) → IsSound volume size image objects → IsForeignAt volume size (covers_of objects) (cloud_tree volume objects) image at → ⊥
-not_foreign volume size image objects at sound (inl e) =
-    let found = history_from_entries volume size image objects sound.history sound.stands_for in
-    let read : journal_of volume size (covers_of objects) image ≡ Ok found.0 = found.1 in
-    absurd cc
-not_foreign volume size image objects at sound (inr p) =
-    let covers = covers_of objects in
-    let tree : Tree = cloud_tree volume objects in
-    let found = history_from_entries volume size image objects sound.history sound.stands_for in
-    let same : found.0 ≡ p.0 = ok_same found.0 p.0 (journal_of volume size covers image) found.1 p.1 in
-    let all : are_done tree (changes_in (entries_above covers found.0)) ≡ true = ap (λ (h : History). are_done h.tree h.changes) found.2 ∙ sound.legal.done in
-    none_fail tree size covers p.0 image at (ap (λ (l : List (ℕ × List ℕ)). are_done tree (changes_in (entries_above covers l))) (sym same) ∙ all) p.2
+use Rattle.sky_world.proofs.WipeLaws.{HoldsNone, LeavesWiped, bare_epoch, bare_leaves, bare_sound, bare_tells, wipe_leaves}
 
 -- ---- what may be refused
 
@@ -83,22 +38,13 @@ module _ {S : Type 0} (g : Ghosts S) (volume size : ℕ) (state : State) (s : S)
       let n = next told in
       both_told_at g s (IsRefusedAs volume size status) n.has.image n.has.objects n.has.is n.has.held refused
 
+  unrefused : (why : OpenFault) (told : state.told ≡ true) → IsRefusedBy volume size why (next told).has.image (next told).has.objects → IsOfDevices (failed ℕ why)
+  unrefused why told refused = let n = next told in sound_unrefused volume size n.has.image n.has.objects n.sound ℕ why refused
+
   pub may_refuse : (status : Status) → WhereBothTold g s (IsRefusedAs volume size status) → MayRefuse status state
-  may_refuse (Foreign at) refused =
-      false_from_ne_true state.told
-      (λ told.
-      let n = next told in
-      let why : IsRefusedBy volume size (fault.Foreign at) n.has.image n.has.objects = refused_at (Foreign at) refused told in
-      not_foreign volume size n.has.image n.has.objects at n.sound why.1)
-  may_refuse (Missing name) refused = false_from_ne_true state.told (λ told. refused_at (Missing name) refused told)
-  may_refuse (Damaged name damage) refused =
-      false_from_ne_true state.told
-      (λ told.
-      let n = next told in
-      let why : IsRefusedBy volume size (fault.Lost (lost.Damaged name damage)) n.has.image n.has.objects = refused_at (Damaged name damage) refused told in
-      let none : checkpoint_in n.has.objects ≡ None = n.sound.no_checkpoint in
-      let some : checkpoint_in n.has.objects ≡ Some name = why.0 in
-      absurd cc)
+  may_refuse (Foreign at) refused = false_from_ne_true state.told (λ told. unrefused (fault.Foreign at) told (refused_at (Foreign at) refused told))
+  may_refuse (Missing name) refused = false_from_ne_true state.told (λ told. unrefused (fault.Lost (lost.Missing name)) told (refused_at (Missing name) refused told))
+  may_refuse (Damaged name damage) refused = false_from_ne_true state.told (λ told. unrefused (fault.Lost (lost.Damaged name damage)) told (refused_at (Damaged name damage) refused told))
   may_refuse Worn refused = λ told.
       let n = next told in
       let why : IsRefusedBy volume size fault.Worn n.has.image n.has.objects = refused_at Worn refused told in
@@ -108,20 +54,20 @@ module _ {S : Type 0} (g : Ghosts S) (volume size : ℕ) (state : State) (s : S)
 -- ---- a restart
 
 module _ {S : Type 0} (g : Ghosts S) (old : WorldView) (s : S) (state : State) (stands : Stands g old s state) where
-  sound_here : (image : List ℕ) (objects : CloudMap) → IsSound state.kept.journal.volume state.kept.journal.size image objects → IsSound old.settings.volume old.settings.journal_area image objects
+  sound_here : (image : List ℕ) (objects : CloudMap) → IsSound state.kept.history.tree.volume state.kept.journal.size image objects → IsSound old.settings.volume old.settings.journal_area image objects
   sound_here image objects sound =
-      subst (λ (v : ℕ). IsSound v old.settings.journal_area image objects) (sym stands.volume) (subst (λ (z : ℕ). IsSound state.kept.journal.volume z image objects) (sym stands.area) sound)
+      subst (λ (v : ℕ). IsSound v old.settings.journal_area image objects) (sym stands.volume) (subst (λ (z : ℕ). IsSound state.kept.history.tree.volume z image objects) (sym stands.area) sound)
 
   -- one is refused where the site tells nothing, or no epoch is left
   pub restart_refused : (status : Status) → WhereBothTold g s (IsRefusedAs old.settings.volume old.settings.journal_area status) → MayRefuse status state
   restart_refused status refused =
       may_refuse g old.settings.volume old.settings.journal_area state s
       (λ told.
-      let has = has_told g s (sym stands.recoverable.told ∙ told) in
+      let has = has_told g s (sym stands.told ∙ told) in
       record {
         has = has;
-        sound = sound_here has.image has.objects (stands_sound g old s state stands has.image has.objects has.is has.held);
-        epoch = (WhereTold-at (g.objects s) (IsBeside state) has.objects has.held stands.recoverable.cloud).epoch;
+        sound = sound_here has.image has.objects (sound_now g state.epoch state.kept old.service.journal s stands.service.invariant has.image has.objects has.is has.held);
+        epoch = WhereTold-at (g.objects s) (λ o. epoch_after o ≡ state.epoch + 1) has.objects has.held stands.service.invariant.epoch_is;
       }) status refused
 
   -- and one without the journal
@@ -134,7 +80,7 @@ module _ {S : Type 0} (g : Ghosts S) (old : WorldView) (s : S) (state : State) (
       record {
         has = has;
         sound = sound_here has.image has.objects (bare_sound g old s m state stands leaves holds beside has.image has.objects has.is has.held);
-        epoch = (WhereTold-at (g.objects m) (IsBeside state) has.objects has.held (bare_beside g old s m state stands leaves holds beside)).epoch;
+        epoch = bare_epoch g old s m state stands leaves holds beside has.objects has.held;
       }) status refused
 
 -- ---- one that came to no end

@@ -1,38 +1,45 @@
 -- Laws of an opening: the world over what was found stands for it, and a restart finds what the state before it says.
-use Rattle.std.specs.Prelude.{drop, replicate, is_some, ◌&&◌}
+use Rattle.std.specs.Prelude.{drop, max, replicate, is_some, ◌&&◌, nat_lt}
 use Rattle.std.proofs.Common.{◌≡◌, ℕ, ◌+◌, ◌-◌, ◌≤◌, zero, suc, Bool, true, false, Option, Some, None, Ok, List, [], ◌∷◌, ◌++◌, map, take, length, get_or, ⊎_elim, refl, sym, ap, subst, ◌∙◌, arith}
 use Rattle.std.proofs.lemmas.Bool.{and_parts, cases_Bool}
-use Rattle.std.proofs.lemmas.List.{drop_all, length-replicate, take_all}
+use Rattle.std.proofs.lemmas.List.{drop-map, drop_all, length-replicate, take_all, take-take}
 use Rattle.sky_base.specs.declared.moment.Moment.{Moment}
 use Rattle.sky_entry.specs.Entry.{entry_bytes}
 use Rattle.sky_journal.specs.Journal.{JournalView, IsJournal, SameButSpare, StandsFor, first_base}
 use Rattle.sky_journal.specs.Text.{numbered}
-use Rattle.sky_nfs.specs.History.{History, IsLegalHistory, last_tree}
-use Rattle.sky_nfs.specs.Tree.{epoch_start}
+use Rattle.sky_nfs.specs.History.{History, IsLegalHistory, history_length, last_tree, tree_after_changes, tree_at_length}
+use Rattle.sky_nfs.specs.Tree.{Tree, epoch_start}
+use Rattle.sky_nfs.specs.Validity.{IsValidTree}
 use Rattle.sky_nfs.specs.declared.call.Change.{Change}
 use Rattle.sky_outside.specs.CloudMap.{CloudMap}
-use Rattle.sky_outside.specs.Moments.{LeavesOnly}
+use Rattle.sky_outside.specs.Moments.{LeavesOnly, SameCloud}
 use Rattle.sky_outside.specs.Told.{BothTold, WhereTold}
 use Rattle.sky_outside.specs.declared.storage.Storage.{Ghosts}
 use Rattle.sky_outside.proofs.ToldLaws.{WhereTold-at, WhereTold-from}
 use Rattle.sky_recover.specs.Opening.{BeginsAt, Found, HasEntries, IsFoundOn, IsLeftOf, IsOpenOn, IsReadOn, LeavesFound}
 use Rattle.sky_recover.proofs.OneWay.{left_as_read}
-use Rattle.sky_script.specs.Frame.{session_count}
+use Rattle.sky_script.specs.Frame.{OutFrame, Opened, session_count}
 use Rattle.sky_settings.specs.declared.settings.Fields.{Fields}
 use Rattle.sky_sound.specs.Boot.{claimed}
 use Rattle.sky_sound.specs.Cloud.{HasNoCheckpoint, checkpoint_in, cloud_tree, covers_of, epoch_after}
+use Rattle.sky_sound.specs.Invariant.{AreStorable, CloudHas, DiskHas, Invariant, entries_between}
+use Rattle.sky_sound.specs.Kept.{JournalState, Kept, journal_state, left_open}
 use Rattle.sky_sound.specs.Recovery.{FindsSame, IsSound, history_of}
-use Rattle.sky_sound.proofs.Claims.{checkpoint_in-claimed, epoch_after-claimed}
 use Rattle.sky_sound.specs.Settled.{settled}
+use Rattle.sky_sound.proofs.Claims.{checkpoint_in-claimed, epoch_after-claimed}
+use Rattle.sky_sound.proofs.Settled.{left_open_is}
 use Rattle.sky_sound.proofs.Texts.{ok_same}
 use Rattle.sky_world.specs.declared.sessions.Session.TheVariants.{Absent}
-use Rattle.sky_world.specs.Disk.{AreStorable, HasKept, IsKeptOn}
 use Rattle.sky_world.specs.Finding.{FindsPrefix, LeavesFinding}
 use Rattle.sky_world.specs.Meaning as meaning
-use Rattle.sky_world.specs.Meaning.{Kept, State, Restarts, as_known, untold, cut_to, found_to, kept_found, kept_of, opening, start}
+use Rattle.sky_world.specs.Meaning.{State, MayBeFound, Restarts, as_known, untold, cut_to, given_up, kept_of, kept_to, opened_state, opening, opening_of, reopened, start}
 use Rattle.sky_world.specs.Opening.{opened_world, reopened_world}
-use Rattle.sky_world.specs.World.{IsBeside, IsRecoverable, Stands, WorldView, tells}
-use Rattle.sky_world.proofs.FindingLaws.{Begins, both_told_at, both_told_from, finds_at, finds_same, holds_read, leaves_as, stands_begins, stands_history, stands_sound}
+use Rattle.sky_world.specs.World.{Stands, WorldView, tells}
+use Rattle.sky_world.proofs.DiskLaws.{holds_read, read_has, storable_to}
+use Rattle.sky_world.proofs.FindingLaws.{begins_at, both_told_at, both_told_from, finds_at, finds_same, history_now, leaves_as, sound_now}
+use Rattle.sky_world.proofs.HistoryLaws.{cut_legal}
+use Rattle.sky_world.proofs.PartLaws.{between_length, between_tree, history_between}
+use Rattle.sky_world.proofs.RestartLaws.{cut_length}
 
 -- ---- what sites tell
 
@@ -72,11 +79,18 @@ has_told g s told =
     let objects = some_of (g.objects s) both.1 in
     record { image = image.0; objects = objects.0; is = image.1; held = objects.1 }
 
--- ---- what was found
+-- a site whose disk was called, and whose cloud was not, tells what it told
+told_alike : {A : Type 0} (a b : Option A) → BothTold (λ old new. Unit {0}) a b → is_some b ≡ is_some a
+told_alike None None both = refl
+told_alike None (Some y) both = absurd both
+told_alike (Some x) None both = absurd both
+told_alike (Some x) (Some y) both = refl
 
--- what was found, where its journal has memory for so many bytes
-abbrev pub with_spare : ℕ → Found → Found
-with_spare spare found = record found { journal = record found.journal { spare = spare } }
+pub tells_alike : {S : Type 0} (g : Ghosts S) (s t : S) → SameCloud g s t → BothTold (λ old new. Unit {0}) (g.image s) (g.image t) → tells g t ≡ tells g s
+tells_alike g s t cloud both =
+    ap (λ (b : Bool). b && is_some (g.objects t)) (told_alike (g.image s) (g.image t) both) ∙ ap (λ (o : Option CloudMap). is_some (g.image s) && is_some o) cloud.objects
+
+-- ---- what was found
 
 -- a cloud in which the epoch of what was found is claimed
 pub record IsClaimed (volume : ℕ) (found : Found) (objects : CloudMap) : Type 0 where
@@ -93,29 +107,93 @@ claimed_is volume found old new same begins = record {
   epoch = ap (λ (o : CloudMap). epoch_after o) same ∙ epoch_after-claimed old ∙ ap (λ (n : ℕ). n + 1) (sym begins.epoch);
 }
 
--- This was found, and is open on a site, which tells both what it has or does not.
-pub record IsNew {S : Type 0} (g : Ghosts S) (volume size : ℕ) (told : Bool) (t : S) (found : Found) : Type 0 where
-  pub legal : IsLegalHistory found.history
-  pub storable : AreStorable found.history.changes
-  pub tree : found.history.tree.volume ≡ volume
-  pub journal : found.journal.volume ≡ volume
-  pub area : found.journal.size ≡ size
-  pub cloud : WhereTold (g.objects t) (IsClaimed volume found)
-  pub told_is : told ≡ tells g t
-  pub opens : IsOpenOn g t found
+-- What is kept is what was found, as far as the disk and the cloud know it: the history that was found goes on from what is completed.
+pub record Matches (volume : ℕ) (found : Found) (kept : Kept) : Type 0 where
+  pub legal : IsLegalHistory kept.history
+  pub storable : AreStorable kept.history.changes
+  pub volume_is : kept.history.tree.volume ≡ volume
+  pub journal : journal_state found.journal ≡ kept.journal
+  pub marked : kept.mark ≡ kept.stored
+  pub all : kept.stored ≡ history_length kept.history
+  pub begins : kept.history.before ≤ kept.completed
+  pub base : found.history.before ≡ kept.completed
+  pub tree : found.history.tree ≡ tree_at_length kept.history kept.completed
+  pub last : last_tree found.history ≡ last_tree kept.history
+  pub entries_are : map entry_bytes found.history.changes ≡ entries_between kept.history kept.completed kept.stored
+  pub count : history_length found.history ≡ kept.stored
 
-pub is_new : {S : Type 0} (g : Ghosts S) (volume size : ℕ) (told : Bool) (s t : S) (found : Found) → IsFoundOn g volume size s found → IsOpenOn g t found
-    → BothTold (λ old new. new ≡ claimed old) (g.objects s) (g.objects t) → BothTold (λ old new. Unit {0}) (g.image s) (g.image t) → told ≡ tells g s → IsNew g volume size told t found
-is_new g volume size told s t found is opens claims images told_is = record {
-  legal = is.legal;
-  storable = is.storable;
-  tree = is.volume;
-  journal = is.journal_volume;
-  area = is.journal_size;
-  cloud = told_on (λ old new. new ≡ claimed old) (BeginsAt volume found) (IsClaimed volume found) (g.objects s) (g.objects t) (claimed_is volume found) claims is.cloud;
-  told_is = told_is ∙ tells_same g s t (λ old new. Unit {0}) (λ old new. new ≡ claimed old) images claims;
-  opens = opens;
-}
+module _ {S : Type 0} (g : Ghosts S) (volume size : ℕ) (s t : S) (found : Found) (is : IsFoundOn g volume size s found) (opens : IsOpenOn g t found)
+    (claims : BothTold (λ old new. new ≡ claimed old) (g.objects s) (g.objects t)) where
+  claimed_at : WhereTold (g.objects t) (IsClaimed volume found)
+  claimed_at = told_on (λ old new. new ≡ claimed old) (BeginsAt volume found) (IsClaimed volume found) (g.objects s) (g.objects t) (claimed_is volume found) claims is.cloud
+
+  -- then what holds between two steps holds of it
+  pub invariant_found : (kept : Kept) → Matches volume found kept → Invariant g found.epoch kept found.journal t
+  invariant_found kept m =
+      let h = kept.history in
+      let j : JournalView = found.journal in
+      record {
+        durable = opens.stands.durable;
+        legal = m.legal;
+        storable = m.storable;
+        is = opens.is;
+        volume = is.journal_volume ∙ sym m.volume_is;
+        journal_is = m.journal;
+        begins = m.begins;
+        completed = omega (arith, m.base, m.count);
+        marked = m.marked;
+        stored = omega (arith, m.all);
+        cloud =
+            WhereTold-from (g.objects t) (CloudHas kept)
+            (λ objects held.
+            let c = WhereTold-at (g.objects t) (IsClaimed volume found) objects held claimed_at in
+            record {
+              no_checkpoint = c.no_checkpoint;
+              covers = sym c.before ∙ m.base;
+              tree = ap (λ (v : ℕ). cloud_tree v objects) m.volume_is ∙ sym c.tree ∙ m.tree;
+              valid = subst (λ (x : Tree). IsValidTree x) m.tree is.legal.valid;
+            });
+        disk =
+            WhereTold-from (g.image t) (DiskHas kept j)
+            (λ image told.
+            let e = WhereTold-at (g.image t) (HasEntries j found.history) image told opens.has in
+            let b : first_base j ≡ kept.completed = e.base ∙ m.base in
+            record {
+              older = e.older;
+              newer = e.newer;
+              laid = e.laid;
+              least = omega (arith, b, m.begins);
+              most = omega (arith, b);
+              numbers = λ more. e.numbers more ∙ ap (λ (es : List (List ℕ)). numbered found.history.before (es ++ more)) m.entries_are
+                  ∙ ap (λ (n : ℕ). numbered n (entries_between h kept.completed kept.stored ++ more)) m.base
+                  ∙ ap (λ (n : ℕ). numbered n (entries_between h n kept.stored ++ more)) (sym b);
+            });
+        last = opens.stored ∙ m.count;
+        waits = opens.pending ∙ ap (λ (cs : List Change). map entry_bytes cs) (sym (drop_all (kept.stored - h.before) h.changes (omega (arith, m.all))));
+        epoch_is = WhereTold-from (g.objects t) (λ objects. epoch_after objects ≡ found.epoch + 1) (λ objects held. (WhereTold-at (g.objects t) (IsClaimed volume found) objects held claimed_at).epoch);
+      }
+
+  -- where nothing is known of it beforehand, all of what was found is kept
+  pub matches_found : Matches volume found (kept_of found)
+  matches_found =
+      let h = found.history in
+      let none : h.before - h.before ≡ 0 = omega arith in
+      let whole : take (h.before + length h.changes - h.before) h.changes ≡ h.changes = take_all (h.before + length h.changes - h.before) h.changes (omega arith) in
+      record {
+        legal = is.legal;
+        storable = is.storable;
+        volume_is = is.volume;
+        journal = refl;
+        marked = refl;
+        all = refl;
+        begins = omega arith;
+        base = refl;
+        tree = sym (ap (λ (n : ℕ). tree_after_changes h.tree (take n h.changes)) none);
+        last = refl;
+        entries_are =
+            sym (ap (λ (n : ℕ). drop n (map entry_bytes (take (h.before + length h.changes - h.before) h.changes))) none ∙ ap (λ (cs : List Change). map entry_bytes cs) whole);
+        count = refl;
+      }
 
 -- ---- the world over it
 
@@ -125,171 +203,182 @@ none_begun zero i x = refl
 none_begun (suc n) zero x = refl
 none_begun (suc n) (suc i) x = none_begun n i x
 
-module _ (before : ℕ) (cs : List Change) where
-  whole : take (before + length cs - before) cs ≡ cs
-  whole = take_all (before + length cs - before) cs (omega arith)
-
-  none_behind : drop (before + length cs - before) cs ≡ []
-  none_behind = drop_all (before + length cs - before) cs (omega arith)
-
-module _ {S : Type 0} (g : Ghosts S) (volume size : ℕ) (told : Bool) (t : S) (known : Found) (spare : ℕ) (new : IsNew g volume size told t (with_spare spare known)) where
-  -- what is kept stands on the disk
-  kept_on_open : IsKeptOn g (kept_of known) t
-  kept_on_open =
-      let h = known.history in
-      let opens = new.opens in
-      let j = opens.is in
-      record {
-        is = record { least = j.least; most = j.most; fits = j.fits; older = j.older; newer = j.newer; in_order = j.in_order; framed = j.framed; pending = j.pending };
-        least = omega arith;
-        most = omega arith;
-        pending = opens.pending ∙ ap (λ (cs : List Change). map entry_bytes cs) (sym (none_behind h.before h.changes));
-        stored = opens.stored;
-        storable = new.storable;
-        durable = opens.stands.durable;
-        has =
-            WhereTold-from (g.image t) (HasKept (kept_of known))
-            (λ image is.
-            let e = WhereTold-at (g.image t) (HasEntries (record known.journal { spare = spare }) h) image is opens.has in
-            record {
-              older = e.older;
-              newer = e.newer;
-              laid = record { size = e.laid.size; older_is = e.laid.older_is; newer_is = e.laid.newer_is; others = e.laid.others };
-              base = e.base;
-              numbers = λ more. e.numbers more ∙ ap (λ (cs : List Change). numbered h.before (map entry_bytes cs ++ more)) (sym (whole h.before h.changes));
-            });
-      }
-
-  recoverable_open : (moment : Moment) → IsRecoverable g (record (start told known) { moment = moment }) t
-  recoverable_open moment = record {
-    told = new.told_is;
-    legal = new.legal;
-    volume = new.tree ∙ sym new.journal;
-    cloud =
-        WhereTold-from (g.objects t) (IsBeside (record (start told known) { moment = moment }))
-        (λ objects held.
-        let c = WhereTold-at (g.objects t) (IsClaimed volume (with_spare spare known)) objects held new.cloud in
-        record { no_checkpoint = c.no_checkpoint; covers = c.before; tree = c.tree ∙ ap (λ (v : ℕ). cloud_tree v objects) (sym new.journal); epoch = c.epoch });
-  }
-
-  -- the world over what was found stands for it
-  pub stands_open : (settings : Fields) (ended : Bool) (moment at : Moment) → settings.volume ≡ volume → settings.journal_area ≡ size → moment ≡ at
+module _ {S : Type 0} (g : Ghosts S) (volume size : ℕ) (t : S) (found : Found) (kept : Kept) (m : Matches volume found kept) (size_is : found.journal.size ≡ size) (epoch : ℕ) (told : Bool) where
+  -- the world over what was found stands for what is kept
+  pub stands_over : (settings : Fields) (ended : Bool) (moment at : Moment) → settings.volume ≡ volume → settings.journal_area ≡ size → moment ≡ at → found.epoch ≡ epoch → told ≡ tells g t
+      → Invariant g epoch kept found.journal t
       → Stands g
       (record {
         settings = settings;
-        service = record { epoch = known.epoch; tree = last_tree known.history; journal = record known.journal { spare = spare }; moment = moment };
+        service = record { epoch = found.epoch; tree = last_tree found.history; journal = found.journal; moment = moment };
         sessions = replicate session_count Absent;
         ended = ended;
-      }) t (record (start told known) { moment = at })
-  stands_open settings ended moment at volume_is area_is moment_is = record {
-    volume = volume_is ∙ sym new.journal;
-    area = area_is ∙ sym new.area;
-    recoverable = recoverable_open at;
-    service = record { epoch = refl; tree = refl; moment = moment_is; journal = refl; kept = kept_on_open };
+      }) t (opened_state told epoch at kept)
+  stands_over settings ended moment at volume_is area_is moment_is epoch_is told_is invariant = record {
+    volume = volume_is ∙ sym m.volume_is;
+    area = area_is ∙ sym size_is ∙ ap (λ (j : JournalState). j.size) m.journal;
+    told = told_is;
+    service = record { epoch = epoch_is; tree = m.last; moment = moment_is; invariant = invariant };
     count = length-replicate session_count Absent;
     state_count = length-replicate session_count meaning.Absent;
     sessions = λ number. rw (none_begun session_count number Absent, none_begun session_count number meaning.Absent) tt;
   }
+
+  -- and the frame of the opening says how many changes are kept
+  pub says_over : (at : Moment) → found.epoch ≡ epoch → opening found ≡ opening_of (opened_state told epoch at kept)
+  says_over at epoch_is =
+      let n : history_length found.history ≡ history_length kept.history = m.count ∙ m.all in
+      λ i. Opened (epoch_is i) (n i) (nat_lt (m.base i) (n i))
 
 -- the first opening
 pub stands_started : {S : Type 0} (g : Ghosts S) (settings : Fields) (s t : S) (found : Found) → IsFoundOn g settings.volume settings.journal_area s found → IsOpenOn g t found
     → BothTold (λ old new. new ≡ claimed old) (g.objects s) (g.objects t) → BothTold (λ old new. Unit {0}) (g.image s) (g.image t)
     → Stands g (opened_world settings found) t (start (tells g s) found)
 stands_started g settings s t found is opens claims images =
-    let new : IsNew g settings.volume settings.journal_area (tells g s) t found = is_new g settings.volume settings.journal_area (tells g s) s t found is opens claims images refl in
-    stands_open g settings.volume settings.journal_area (tells g s) t found found.journal.spare new settings false epoch_start epoch_start refl refl refl
+    let v = settings.volume in
+    let a = settings.journal_area in
+    let m : Matches v found (kept_of found) = matches_found g v a s t found is opens claims in
+    stands_over g v a t found (kept_of found) m is.journal_size found.epoch (tells g s) settings false epoch_start epoch_start refl refl refl refl
+    (tells_same g s t (λ old new. Unit {0}) (λ old new. new ≡ claimed old) images claims) (invariant_found g v a s t found is opens claims (kept_of found) m)
 
 -- ---- what is known to be found
 
--- What was found on a site is what is known, but for the memory that its journal has: it has the next epoch, the changes up to a number, and of
--- the journal that was read what the opening leaves, which is what it would leave of the journal that is known.
-pub found_known : (volume size number : ℕ) (read : JournalView) (state : State) (found : Found) (image : List ℕ) (older newer : List (List ℕ)) → found.epoch ≡ state.epoch + 1
-    → found.history ≡ cut_to number state.kept.history → IsLeftOf volume size found image → read.volume ≡ volume → read.size ≡ size → IsJournal read → StandsFor read image older newer
-    → first_base read ≤ state.kept.history.before → found ≡ with_spare found.journal.spare (found_to number read state)
-found_known volume size number read state found image older newer epoch history is volume_is size_is journal stands low =
-    let covers : ℕ = state.kept.history.before in
-    let first : found.history.before ≡ covers = ap (λ (x : History). x.before) history in
+-- The journal that was found is what an opening leaves of another one that stands over the image from which it was read.
+pub found_journal : (volume size covers : ℕ) (read : JournalView) (found : Found) (image : List ℕ) (older newer : List (List ℕ)) → found.history.before ≡ covers → IsLeftOf volume size found image
+    → read.volume ≡ volume → read.size ≡ size → IsJournal read → StandsFor read image older newer → first_base read ≤ covers → journal_state found.journal ≡ left_open covers (journal_state read)
+found_journal volume size covers read found image older newer first is volume_is size_is journal stands low =
     let on : IsReadOn volume size covers image is.read = subst (λ (n : ℕ). IsReadOn volume size n image is.read) first is.is in
     let left : SameButSpare (settled covers is.read) found.journal = subst (λ (n : ℕ). SameButSpare (settled n is.read) found.journal) first is.left in
     let x : ℕ = found.journal.spare in
     let same : SameButSpare (settled covers read) found.journal =
     left ∙ ap (λ (v : JournalView). record v { spare = x }) (left_as_read volume size covers image read is.read older newer volume_is size_is journal stands low on) in
-    λ i. record { epoch = epoch i; history = history i; journal = same i }
+    ap (λ (v : JournalView). journal_state v) same ∙ left_open_is covers read
+
+-- What was found is what is kept up to a number: the changes behind the completed ones, and the journal as an opening leaves it.
+module _ (volume : ℕ) (kept : Kept) (number : ℕ) (j : JournalState) (found : Found) (legal : IsLegalHistory kept.history) (storable : AreStorable kept.history.changes) (volume_is : kept.history.tree.volume ≡ volume)
+    (begins : kept.history.before ≤ kept.completed) (least : kept.completed ≤ number) (most : number ≤ history_length kept.history)
+    (same : found.history ≡ history_between kept.history kept.completed number) (journal : journal_state found.journal ≡ left_open kept.completed j) where
+  to_number : max number kept.completed ≡ number
+  to_number = omega (arith, least)
+
+  cut_twice : (k : ℕ) → k ≤ number → take (k - kept.history.before) (take (number - kept.history.before) kept.history.changes) ≡ take (k - kept.history.before) kept.history.changes
+  cut_twice k le = take-take (k - kept.history.before) (number - kept.history.before) kept.history.changes (omega (arith, le))
+
+  pub matches_to : Matches volume found (kept_to number j kept)
+  matches_to =
+      let h = kept.history in
+      let c : ℕ = kept.completed in
+      record {
+        legal = cut_legal number h legal;
+        storable = storable_to kept number storable;
+        volume_is = volume_is;
+        journal = journal;
+        marked = refl;
+        all = sym (cut_length number h (omega (arith, begins, least)) most);
+        begins = begins;
+        base = ap (λ (x : History). x.before) same;
+        tree = ap (λ (x : History). x.tree) same ∙ ap (λ (cs : List Change). tree_after_changes h.tree cs) (sym (cut_twice c least));
+        last = ap (λ (x : History). last_tree x) same ∙ between_tree h c number begins ∙ ap (λ (n : ℕ). tree_at_length h n) to_number;
+        entries_are =
+            ap (λ (x : History). map entry_bytes x.changes) same ∙ sym (drop-map entry_bytes (c - h.before) (take (number - h.before) h.changes))
+            ∙ ap (λ (cs : List Change). drop (c - h.before) (map entry_bytes cs)) (sym (cut_twice number (omega arith)));
+        count = ap (λ (x : History). history_length x) same ∙ between_length h c number begins (omega (arith, least, most)) most ∙ to_number;
+      }
 
 -- ---- a restart
 
+-- what was found may be found on a site that does not tell what it has
+pub may_be_found : {S : Type 0} (g : Ghosts S) (volume size : ℕ) (s : S) (kept : Kept) (found : Found) → volume ≡ kept.history.tree.volume → size ≡ kept.journal.size → IsFoundOn g volume size s found → MayBeFound kept found
+may_be_found g volume size s kept found volume_is size_is is = record {
+  legal = is.legal;
+  volume = is.volume ∙ volume_is;
+  journal_volume = is.journal_volume ∙ volume_is;
+  journal_size = is.journal_size ∙ size_is;
+  pending = is.pending;
+  up = is.up;
+}
+
+-- From m to t, a site of which the state from before knows what is kept, if it tells, was opened again: the proxy has found that, and the world stands for the
+-- state with it.
+module _ {S : Type 0} (g : Ghosts S) (old : WorldView) (m t : S) (state : State) (known : Kept) (volume_is : old.settings.volume ≡ state.kept.history.tree.volume) (size_is : old.settings.journal_area ≡ state.kept.journal.size)
+    (moment_is : old.service.moment ≡ state.moment) (told_is : state.told ≡ tells g m) (found : Found) (is : IsFoundOn g old.settings.volume old.settings.journal_area m found) (opens : IsOpenOn g t found)
+    (claims : BothTold (λ old new. new ≡ claimed old) (g.objects m) (g.objects t)) (images : BothTold (λ old new. Unit {0}) (g.image m) (g.image t))
+    (knows : state.told ≡ true → Matches old.settings.volume found known × (found.epoch ≡ state.epoch + 1)) where
+  told_then : state.told ≡ tells g t
+  told_then = told_is ∙ tells_same g m t (λ old new. Unit {0}) (λ old new. new ≡ claimed old) images claims
+
+  abbrev Reached : State → Type 0
+  Reached next = Restarts state known (opening found ∷ []) next × Stands g (reopened_world old found) t next
+
+  reached_known : state.told ≡ true → Reached (opened_state state.told (state.epoch + 1) state.moment known)
+  reached_known told =
+      let v = old.settings.volume in
+      let a = old.settings.journal_area in
+      let k = knows told in
+      let on : Invariant g (state.epoch + 1) known found.journal t = subst (λ (n : ℕ). Invariant g n known found.journal t) k.1 (invariant_found g v a m t found is opens claims known k.0) in (
+        as_known told refl (ap (λ (f : OutFrame). f ∷ []) (says_over g v a t found known k.0 is.journal_size (state.epoch + 1) state.told state.moment k.1)),
+        stands_over g v a t found known k.0 is.journal_size (state.epoch + 1) state.told old.settings old.ended old.service.moment state.moment refl refl moment_is k.1 told_then on,
+      )
+
+  reached_untold : state.told ≡ false → Reached (opened_state state.told found.epoch state.moment (kept_of found))
+  reached_untold told =
+      let v = old.settings.volume in
+      let a = old.settings.journal_area in
+      let all : Matches v found (kept_of found) = matches_found g v a m t found is opens claims in (
+        untold found told (may_be_found g v a m state.kept found volume_is size_is is) refl refl,
+        stands_over g v a t found (kept_of found) all is.journal_size found.epoch state.told old.settings old.ended old.service.moment state.moment refl refl moment_is refl told_then
+            (invariant_found g v a m t found is opens claims (kept_of found) all),
+      )
+
+  pub reached : (next : State) × Restarts state known (opening found ∷ []) next × Stands g (reopened_world old found) t next
+  reached =
+      ⊎_elim (λ (told : state.told ≡ true). let r = reached_known told in (opened_state state.told (state.epoch + 1) state.moment known, r.0, r.1))
+      (λ (told : state.told ≡ false). let r = reached_untold told in (opened_state state.told found.epoch state.moment (kept_of found), r.0, r.1)) (cases_Bool state.told)
+
 module _ {S : Type 0} (g : Ghosts S) (old : WorldView) (s t : S) (state : State) (stands : Stands g old s state) where
   -- the history that was found on a site that tells what it has
-  restart_history : (found : Found) → IsFoundOn g old.settings.volume old.settings.journal_area s found → Has g s → found.history ≡ cut_to state.kept.mark state.kept.history
+  restart_history : (found : Found) → IsFoundOn g old.settings.volume old.settings.journal_area s found → Has g s → found.history ≡ history_between state.kept.history state.kept.completed state.kept.stored
   restart_history found is has =
       let v = old.settings.volume in
       let a = old.settings.journal_area in
+      let h : History = history_between state.kept.history state.kept.completed state.kept.stored in
       let found_is : history_of v a has.image has.objects ≡ Ok found.history =
       both_told_at g s (λ image objects. history_of v a image objects ≡ Ok found.history) has.image has.objects has.is has.held is.history in
-      let known : history_of state.kept.journal.volume state.kept.journal.size has.image has.objects ≡ Ok (cut_to state.kept.mark state.kept.history) =
-      stands_history g old s state stands has.image has.objects has.is has.held in
-      let there : history_of v a has.image has.objects ≡ Ok (cut_to state.kept.mark state.kept.history) =
-      subst (λ (x : ℕ). history_of x a has.image has.objects ≡ Ok (cut_to state.kept.mark state.kept.history)) (sym stands.volume)
-      (subst (λ (z : ℕ). history_of state.kept.journal.volume z has.image has.objects ≡ Ok (cut_to state.kept.mark state.kept.history)) (sym stands.area) known) in
-      ok_same found.history (cut_to state.kept.mark state.kept.history) (history_of v a has.image has.objects) found_is there
+      let known : history_of state.kept.history.tree.volume state.kept.journal.size has.image has.objects ≡ Ok h =
+      history_now g state.epoch state.kept old.service.journal s stands.service.invariant has.image has.objects has.is has.held in
+      let there : history_of v a has.image has.objects ≡ Ok h =
+      subst (λ (x : ℕ). history_of x a has.image has.objects ≡ Ok h) (sym stands.volume)
+      (subst (λ (z : ℕ). history_of state.kept.history.tree.volume z has.image has.objects ≡ Ok h) (sym stands.area) known) in
+      ok_same found.history h (history_of v a has.image has.objects) found_is there
 
   -- and the epoch
   restart_epoch : (found : Found) → IsFoundOn g old.settings.volume old.settings.journal_area s found → Has g s → found.epoch ≡ state.epoch + 1
   restart_epoch found is has =
       let begins = WhereTold-at (g.objects s) (BeginsAt old.settings.volume found) has.objects has.held is.cloud in
-      let beside = WhereTold-at (g.objects s) (IsBeside state) has.objects has.held stands.recoverable.cloud in
-      begins.epoch ∙ beside.epoch
+      begins.epoch ∙ WhereTold-at (g.objects s) (λ o. epoch_after o ≡ state.epoch + 1) has.objects has.held stands.service.invariant.epoch_is
 
-  -- the world over what was found again stands for what is known, where it is what is known
-  pub stands_again : (known found : Found) → IsNew g old.settings.volume old.settings.journal_area state.told t found → found ≡ with_spare found.journal.spare known
-      → Stands g (reopened_world old found) t (record (start state.told known) { moment = state.moment })
-  stands_again known found new same =
-      let v = old.settings.volume in
-      let a = old.settings.journal_area in
-      let x : ℕ = found.journal.spare in
-      let next : State = record (start state.told known) { moment = state.moment } in
-      subst (λ (f : Found). Stands g (reopened_world old f) t next) (sym same)
-      (stands_open g v a state.told t known x (subst (λ (f : Found). IsNew g v a state.told t f) same new) old.settings old.ended old.service.moment state.moment refl refl stands.service.moment)
-
-  -- what is said of it, and what it leads to
-  pub restarts_known : (known found : Found) → state.told ≡ true → found ≡ with_spare found.journal.spare known
-      → Restarts state known (opening found ∷ []) (record (start state.told known) { moment = state.moment })
-  restarts_known known found told same = as_known told ((λ k. opening (same k) ∷ []), refl)
-
-  pub restarts_untold : (known found : Found) → state.told ≡ false → IsNew g old.settings.volume old.settings.journal_area state.told t found
-      → Restarts state known (opening found ∷ []) (record (start state.told found) { moment = state.moment })
-  restarts_untold known found told new =
-      untold found told
-      (record {
-        legal = new.legal;
-        volume = new.tree ∙ stands.volume;
-        journal_volume = new.journal ∙ stands.volume;
-        journal_size = new.area ∙ stands.area;
-        pending = new.opens.pending;
-        up = new.opens.up;
-      }) (refl, refl)
-
-  -- what was found on a site that tells what it has is what is known
-  restart_known : (found : Found) → IsFoundOn g old.settings.volume old.settings.journal_area s found → Has g s → found ≡ with_spare found.journal.spare (kept_found state)
-  restart_known found is has =
+  -- what was found on a site that tells what it has is what is kept
+  restart_known : (found : Found) → IsFoundOn g old.settings.volume old.settings.journal_area s found → state.told ≡ true → Matches old.settings.volume found (reopened state.kept) × (found.epoch ≡ state.epoch + 1)
+  restart_known found is told =
       let v = old.settings.volume in
       let a = old.settings.journal_area in
       let kept = state.kept in
-      let on = stands.service.kept in
-      let here = WhereTold-at (g.image s) (HasKept kept) has.image has.is on.has in
-      found_known v a kept.mark kept.journal state found has.image here.older here.newer (restart_epoch found is has) (restart_history found is has)
-      (WhereTold-at (g.image s) (IsLeftOf v a found) has.image has.is is.journal) (sym stands.volume) (sym stands.area) on.is here.laid (omega (arith, here.base))
+      let j : JournalView = old.service.journal in
+      let on = stands.service.invariant in
+      let has = has_told g s (sym stands.told ∙ told) in
+      let here = read_has g state.epoch kept j s on has.image has.is in
+      let same = restart_history found is has in
+      let size : j.size ≡ a = ap (λ (x : JournalState). x.size) on.journal_is ∙ sym stands.area in
+      let journal : journal_state found.journal ≡ left_open kept.completed kept.journal =
+      found_journal v a kept.completed j found has.image here.older here.newer (ap (λ (x : History). x.before) same) (WhereTold-at (g.image s) (IsLeftOf v a found) has.image has.is is.journal)
+      (on.volume ∙ sym stands.volume) size on.is here.laid here.most ∙ ap (λ (x : JournalState). left_open kept.completed x) on.journal_is in
+      (matches_to v kept kept.stored kept.journal found on.legal on.storable (sym stands.volume) on.begins on.completed on.stored same journal, restart_epoch found is has)
 
-  -- After a restart the proxy has found what is known, and the world stands for the state with that.
+  -- After a restart the proxy has found what is kept, and the world stands for the state with that.
   pub restarted : (found : Found) → IsFoundOn g old.settings.volume old.settings.journal_area s found → IsOpenOn g t found → BothTold (λ old new. new ≡ claimed old) (g.objects s) (g.objects t)
-      → BothTold (λ old new. Unit {0}) (g.image s) (g.image t) → (next : State) × Restarts state (kept_found state) (opening found ∷ []) next × Stands g (reopened_world old found) t next
+      → BothTold (λ old new. Unit {0}) (g.image s) (g.image t) → (next : State) × Restarts state (reopened state.kept) (opening found ∷ []) next × Stands g (reopened_world old found) t next
   restarted found is opens claims images =
-      let new : IsNew g old.settings.volume old.settings.journal_area state.told t found = is_new g old.settings.volume old.settings.journal_area state.told s t found is opens claims images stands.recoverable.told in
-      ⊎_elim
-      (λ (told : state.told ≡ true).
-      let same : found ≡ with_spare found.journal.spare (kept_found state) = restart_known found is (has_told g s (sym stands.recoverable.told ∙ told)) in
-      (record (start state.told (kept_found state)) { moment = state.moment }, restarts_known (kept_found state) found told same, stands_again (kept_found state) found new same))
-      (λ (told : state.told ≡ false). (record (start state.told found) { moment = state.moment }, restarts_untold (kept_found state) found told new, stands_again found found new refl)) (cases_Bool state.told)
+      reached g old s t state (reopened state.kept) stands.volume stands.area stands.service.moment stands.told found is opens claims images (λ told. restart_known found is told)
 
   -- a crash at any moment of an opening leaves what the state before says
   pub restart_leaves : LeavesFound g old.settings.volume old.settings.journal_area s t → LeavesFinding g s t state.epoch state.kept.mark state.kept
@@ -298,10 +387,14 @@ module _ {S : Type 0} (g : Ghosts S) (old : WorldView) (s t : S) (state : State)
       (λ image objects is held.
       let kept = state.kept in
       let epoch = state.epoch in
+      let v : ℕ = kept.history.tree.volume in
+      let z : ℕ = kept.journal.size in
+      let j : JournalView = old.service.journal in
+      let on = stands.service.invariant in
       let found : FindsPrefix epoch kept.mark kept image objects =
-      finds_at epoch kept.mark kept image objects (holds_read g kept s stands.service.kept image is) stands.recoverable.legal (WhereTold-at (g.objects s) (Begins epoch kept) objects held (stands_begins g old s state stands)) in
-      let there : LeavesFound g kept.journal.volume kept.journal.size s t =
-      subst (λ (v : ℕ). LeavesFound g v kept.journal.size s t) stands.volume (subst (λ (z : ℕ). LeavesFound g old.settings.volume z s t) stands.area leaves) in
-      let only : LeavesOnly g s t (FindsSame kept.journal.volume kept.journal.size image objects) =
-      both_told_at g s (λ i o. IsSound kept.journal.volume kept.journal.size i o → LeavesOnly g s t (FindsSame kept.journal.volume kept.journal.size i o)) image objects is held there (stands_sound g old s state stands image objects is held) in
-      leaves_as g s t (FindsSame kept.journal.volume kept.journal.size image objects) (FindsPrefix epoch kept.mark kept) (λ left now same. finds_same epoch kept.mark kept image objects left now found same) only)
+      finds_at epoch kept.mark kept image objects (holds_read g epoch kept j s on image is) on.legal (begins_at g epoch kept j s on objects held) in
+      let there : LeavesFound g v z s t =
+      subst (λ (x : ℕ). LeavesFound g x z s t) stands.volume (subst (λ (x : ℕ). LeavesFound g old.settings.volume x s t) stands.area leaves) in
+      let only : LeavesOnly g s t (FindsSame v z image objects) =
+      both_told_at g s (λ i o. IsSound v z i o → LeavesOnly g s t (FindsSame v z i o)) image objects is held there (sound_now g epoch kept j s on image objects is held) in
+      leaves_as g s t (FindsSame v z image objects) (FindsPrefix epoch kept.mark kept) (λ left now same. finds_same epoch kept.mark kept image objects left now found same) only)

@@ -27,7 +27,8 @@ use Rattle.sky_xdr.proofs.Numbers.{AreBytes-drop}
 use Rattle.sky_world.specs.Disk.{WentOn}
 use Rattle.sky_world.specs.Feeding.{Answers, AnswersMessage, Called, Fails, FailsMessage, IsSmall, Rests, by_procedure, without_room, without_memory}
 use Rattle.sky_world.specs.Meaning as meaning
-use Rattle.sky_world.specs.Meaning.{State, Kept, Scarce, Answered, after_message, called_by, puts_off, service_of, with_kept}
+use Rattle.sky_world.specs.Meaning.{State, Scarce, Answered, after_message, called_by, puts_off, service_of, with_kept}
+use Rattle.sky_sound.specs.Kept.{Kept}
 use Rattle.sky_world.specs.Message as spec
 use Rattle.sky_world.specs.Message.{IsServed, meaning_of, message_of, called_program, called_nfs}
 use Rattle.sky_world.specs.Service.{bare_answer, reply_put_off, reply_to, takes_some}
@@ -110,8 +111,8 @@ module _ {S : Type 0} (g : Ghosts S) where
       state.kept,
       answered state serves,
       subst (λ (v : ServiceView). ServesFor g v t (with_kept state state.kept)) (sym rests.0) (subst (λ (d : S). ServesFor g old d (with_kept state state.kept)) (sym rests.1)
-          (record { epoch = serves.epoch; tree = serves.tree; moment = serves.moment; journal = serves.journal; kept = serves.kept })),
-      subst (λ (d : S). WentOn g s d state.kept.mark state.kept) (sym rests.1) (went_nowhere g state.kept s serves.kept),
+          (record { epoch = serves.epoch; tree = serves.tree; moment = serves.moment; invariant = serves.invariant })),
+      subst (λ (d : S). WentOn g s d state.kept.mark state.kept) (sym rests.1) (went_nowhere g state.epoch state.kept old.journal s serves.invariant),
     );
   }
 

@@ -3,8 +3,8 @@ use Rattle.std.proofs.Common.{◌≡◌, ℕ, Option, Some, None, List, [], ◌�
 use Rattle.sky_record.specs.Stream.{Progress, AtHeader, InFragment, Whole, TooLong}
 use Rattle.sky_script.specs.Frame as frame
 use Rattle.sky_script.specs.Frame.{InFrame, OutFrame}
-use Rattle.sky_recover.specs.Opening.{Found}
-use Rattle.sky_world.specs.Meaning.{State, Session, Absent, Open, Closed, Memory, Restarts, as_known, untold, after_reply, covered_found, kept_found, session_at, with_kept, with_session, Passes, Then, Closes, StepRecord, StepRecords, StepProgress, StepBytes, Step}
+use Rattle.sky_sound.specs.Kept.{Kept}
+use Rattle.sky_world.specs.Meaning.{State, Session, Absent, Open, Closed, Supply, Restarts, as_known, untold, after_reply, given_up, reopened, session_at, with_kept, with_session, Passes, Then, Closes, StepRecord, StepRecords, StepProgress, StepBytes, Step}
 use Rattle.sky_world.specs.World.{IsRestart}
 use Rattle.sky_world.proofs.StepLaws.{open_or_not, of_open, of_closed}
 
@@ -25,7 +25,7 @@ reply_same : (n : ℕ) (reply : Option (List ℕ)) (s : State) → SameOpening s
 reply_same n None s = (refl, refl)
 reply_same n (Some bytes) s = (refl, refl)
 
-record_same : (mem : Memory) (n : ℕ) (bytes : List ℕ) → Stays (StepRecord mem n bytes)
+record_same : (mem : Supply) (n : ℕ) (bytes : List ℕ) → Stays (StepRecord mem n bytes)
 record_same mem n bytes s outs t p = same_by s t (after_reply n p.reply (with_kept s p.after)) p.leads (reply_same n p.reply (with_kept s p.after))
 
 passes_same : Stays Passes
@@ -34,7 +34,7 @@ passes_same s outs t p = same_by s t s p.1 (refl, refl)
 closes_same : (n : ℕ) → Stays (Closes n)
 closes_same n s outs t p = same_by s t (with_session s n Closed) p.1 (refl, refl)
 
-records_same : (mem : Memory) (n : ℕ) (records : List (List ℕ)) → Stays (StepRecords mem n records)
+records_same : (mem : Supply) (n : ℕ) (records : List (List ℕ)) → Stays (StepRecords mem n records)
 records_same mem n [] s outs t p = passes_same s outs t p
 records_same mem n (bytes ∷ records) s outs t p =
     let Both : State → List OutFrame → State → Type 0 = Then (StepRecord mem n bytes) (StepRecords mem n records) in
@@ -55,7 +55,7 @@ progress_same n TooLong s outs t p =
       | inr e ↦ passes_same s outs t (of_closed (Closes n) n s outs t e p)
     ]
 
-bytes_same : (mem : Memory) (x : Session) (n : ℕ) (payload : List ℕ) → Stays (StepBytes mem x n payload)
+bytes_same : (mem : Supply) (x : Session) (n : ℕ) (payload : List ℕ) → Stays (StepBytes mem x n payload)
 bytes_same mem (Open stream) n payload s outs t p =
     let d = p.3 in
     let fed : State = with_session s n (Open (stream ++ payload)) in
@@ -65,7 +65,7 @@ bytes_same mem Absent n payload s outs t p = passes_same s outs t p
 bytes_same mem Closed n payload s outs t p = passes_same s outs t p
 
 -- a frame that is no restart leaves both
-pub step_same : (mem : Memory) (s t : State) (f : InFrame) (outs : List OutFrame) → (IsRestart f → ⊥) → Step mem s f outs t → SameOpening s t
+pub step_same : (mem : Supply) (s t : State) (f : InFrame) (outs : List OutFrame) → (IsRestart f → ⊥) → Step mem s f outs t → SameOpening s t
 step_same mem s t (frame.Begin n) outs plain p = same_by s t (with_session s n (Open [])) p.1 (refl, refl)
 step_same mem s t (frame.Bytes n payload) outs plain p = bytes_same mem (session_at s n) n payload s outs t p
 step_same mem s t (frame.Close n) outs plain p = (ap (λ (x : State). x.told) p.1, ap (λ (x : State). x.epoch) p.1)
@@ -75,17 +75,17 @@ step_same mem s t frame.Restart outs plain p = absurd (plain tt)
 step_same mem s t frame.RestartWithoutJournal outs plain p = absurd (plain tt)
 step_same mem s t frame.End outs plain p = absurd p
 
-restart_tells : (s : State) (known : Found) (outs : List OutFrame) (t : State) → Restarts s known outs t → t.told ≡ s.told
-restart_tells s known outs t (as_known told is) = ap (λ (x : State). x.told) is.1
-restart_tells s known outs t (untold found silent may is) = ap (λ (x : State). x.told) is.1
+restart_tells : (s : State) (known : Kept) (outs : List OutFrame) (t : State) → Restarts s known outs t → t.told ≡ s.told
+restart_tells s known outs t (as_known told is said) = ap (λ (x : State). x.told) is
+restart_tells s known outs t (untold found silent may is said) = ap (λ (x : State). x.told) is
 
 -- and each frame leaves whether the site tells what it has
-pub step_tells : (mem : Memory) (s t : State) (f : InFrame) (outs : List OutFrame) → Step mem s f outs t → t.told ≡ s.told
+pub step_tells : (mem : Supply) (s t : State) (f : InFrame) (outs : List OutFrame) → Step mem s f outs t → t.told ≡ s.told
 step_tells mem s t (frame.Begin n) outs p = (step_same mem s t (frame.Begin n) outs (λ r. r) p).0
 step_tells mem s t (frame.Bytes n payload) outs p = (step_same mem s t (frame.Bytes n payload) outs (λ r. r) p).0
 step_tells mem s t (frame.Close n) outs p = (step_same mem s t (frame.Close n) outs (λ r. r) p).0
 step_tells mem s t (frame.SetMoment at) outs p = (step_same mem s t (frame.SetMoment at) outs (λ r. r) p).0
 step_tells mem s t frame.Stat outs p = (step_same mem s t frame.Stat outs (λ r. r) p).0
-step_tells mem s t frame.Restart outs p = restart_tells s (kept_found s) outs t p
-step_tells mem s t frame.RestartWithoutJournal outs p = restart_tells s (covered_found s) outs t p
+step_tells mem s t frame.Restart outs p = restart_tells s (reopened s.kept) outs t p
+step_tells mem s t frame.RestartWithoutJournal outs p = restart_tells s (given_up s.kept) outs t p
 step_tells mem s t frame.End outs p = absurd p

@@ -1,12 +1,13 @@
 -- Laws of the states that the world stands for.
-use Rattle.std.proofs.Common.{◌≡◌, ℕ, ◌<◌, ◌≤◌, Bool, false, Option, Some, List, [], ◌∷◌, ◌++◌, length, get_or, set, take, ⊎_elim, refl, sym, ap, subst, ◌∙◌, arith}
+use Rattle.std.proofs.Common.{◌≡◌, ℕ, ◌<◌, ◌≤◌, Bool, Option, Some, List, [], ◌∷◌, ◌++◌, length, get_or, set, take, ⊎_elim, refl, sym, ap, subst, ◌∙◌, arith}
 use Rattle.std.specs.Prelude.{IsSome}
 use Rattle.std.proofs.lemmas.Bool.{cases_eq}
 use Rattle.std.proofs.lemmas.List.{append-nil, length-set, set-get_or, get_or-set_same, get_or-set_other}
 use Rattle.sky_base.specs.declared.moment.Moment.{Moment}
 use Rattle.sky_journal.specs.Journal.{JournalView, last_of, number_behind, wiped}
-use Rattle.sky_journal.specs.Journal.{StandsFor as journal_stands}
+use Rattle.sky_journal.specs.Journal.{StandsFor}
 use Rattle.sky_nfs.specs.History.{IsLegalHistory, history_length}
+use Rattle.sky_nfs.specs.Tree.{Tree}
 use Rattle.sky_outside.specs.CloudMap.{CloudMap}
 use Rattle.sky_outside.specs.Moments.{BesideObjects, LeavesOnly, MayLeaveNow, OfPair, SameCloud}
 use Rattle.sky_outside.specs.Told.{BothTold, Given, GivenPart, WhereTold}
@@ -19,69 +20,54 @@ use Rattle.sky_recover.specs.Opening.{Found, IsFoundOn, IsOpenOn, LeavesFound}
 use Rattle.sky_script.specs.Frame.{InFrame, Begin, Bytes, Close, SetMoment, Stat, Restart, RestartWithoutJournal, OutFrame, Counted, out_frame, session_count}
 use Rattle.sky_script.specs.declared.frame.Stats.{Stats}
 use Rattle.sky_sound.specs.Boot.{claimed}
-use Rattle.sky_sound.specs.Cloud.{cloud_tree}
-use Rattle.sky_world.specs.Disk.{HoldsPrefix, IsKeptOn}
+use Rattle.sky_xdr.proofs.Numbers.{AreBytes-zeros}
+use Rattle.sky_world.specs.Disk.{HoldsPrefix}
+use Rattle.sky_sound.specs.Invariant.{Invariant}
 use Rattle.sky_world.specs.Finding.{FindsBehind, FindsNow, FindsPrefix, HandlesOne, LeavesFinding, LeavesWithin, LeftWithin, RecordUnderWay, floor_of, reached}
 use Rattle.sky_world.specs.Sessions.{closed}
 use Rattle.sky_world.specs.declared.sessions.Session.{Session}
 use Rattle.sky_world.specs.declared.sessions.Session.TheVariants.{Absent, Open, Closed}
 use Rattle.sky_world.specs.Meaning as meaning
-use Rattle.sky_world.specs.Meaning.{State, Kept, Scarce, Step, opening, stats_of, session_at, with_kept, with_session, StepBytes}
+use Rattle.sky_world.specs.Meaning.{State, Scarce, Step, opening, stats_of, session_at, with_kept, with_session, StepBytes}
+use Rattle.sky_sound.specs.Kept.{Kept}
 use Rattle.sky_world.specs.Opening.{reopened_world}
-use Rattle.sky_world.specs.World.{ServiceView, SinkGot, WorldView, IsBeside, IsRecoverable, IsRestart, Stands, StandsAt, StandsFor, Stepped, SteppedPart, SteppedDown, stats_shown}
+use Rattle.sky_world.specs.World.{ServiceView, SinkGot, WorldView, IsRestart, Stands, StandsAt, SessionStandsFor, Stepped, SteppedPart, SteppedDown, stats_shown}
 use Rattle.sky_world.specs.Feeding.{Handled, HandledPart, HandledDown, HoldsWithin, IsStable, LeavesHolding, WentWithin}
-use Rattle.sky_world.proofs.DiskLaws.{told_both, went_nowhere}
+use Rattle.sky_world.proofs.DiskLaws.{Extends, cloud_on, longer, told_both, went_nowhere}
 use Rattle.sky_world.proofs.FeedLaws.{given_one, given_part_one}
 use Rattle.sky_world.proofs.FindingLaws.{Begins, begins_at, both_told_at, both_told_from, finds_at, leaves_as, leaves_finding, stands_begins, stands_find}
 use Rattle.sky_world.proofs.HistoryLaws.{step_legal}
 use Rattle.sky_world.proofs.KeepLaws.{last_is}
-use Rattle.sky_world.proofs.RecoverableLaws.{SameBeginning, recoverable_step, step_begins_same}
-use Rattle.sky_world.proofs.ReopenLaws.{restart_leaves, restarted}
+use Rattle.sky_world.proofs.GoesLaws.{step_extends}
+use Rattle.sky_world.proofs.ReopenLaws.{restart_leaves, restarted, tells_alike}
 use Rattle.sky_world.proofs.SiteLaws.{step_same}
 use Rattle.sky_world.proofs.WipeLaws.{HoldsNone, LeavesWiped, bare_leaves, restarted_bare, told_there}
 
--- ---- what a restart needs, besides
+-- ---- the cloud beside a history that goes on
 
--- sessions and the moment don't matter
-recoverable_but : {S : Type 0} (g : Ghosts S) (d : S) (s : State) (moment : Moment) (sessions : List meaning.Session) → IsRecoverable g s d → IsRecoverable g (record s { moment = moment; sessions = sessions }) d
-recoverable_but g d s moment sessions r = record {
-  told = r.told;
-  legal = r.legal;
-  volume = r.volume;
-  cloud =
-      WhereTold-from (g.objects d) (IsBeside (record s { moment = moment; sessions = sessions }))
-      (λ objects held.
-      let b = WhereTold-at (g.objects d) (IsBeside s) objects held r.cloud in
-      record { no_checkpoint = b.no_checkpoint; covers = b.covers; tree = b.tree; epoch = b.epoch });
-}
-
-begins_on : (epoch : ℕ) (kept later : Kept) (objects : CloudMap) → SameBeginning kept later → Begins epoch kept objects → Begins epoch later objects
-begins_on epoch kept later objects same begins = record {
-  no_checkpoint = begins.no_checkpoint;
-  covers = same.before ∙ begins.covers;
-  tree = same.tree ∙ begins.tree ∙ ap (λ (v : ℕ). cloud_tree v objects) (sym same.volume);
+begins_on : (epoch : ℕ) (kept later : Kept) (objects : CloudMap) → Extends kept later → Begins epoch kept objects → Begins epoch later objects
+begins_on epoch kept later objects x begins = record {
+  begins = omega (arith, begins.begins, x.before, x.completed);
+  within = omega (arith, begins.within, x.completed, longer kept later x);
+  has = cloud_on kept later x begins.within objects begins.has;
   later_epoch = begins.later_epoch;
 }
 
--- a step that is no restart
-module _ {S : Type 0} (g : Ghosts S) (d e : S) (s t : State) (f : InFrame) (outs : List OutFrame) (step : Step Scarce s f outs t) (stays : IsRestart f → ⊥) (is : IsRecoverable g s d) where
-  -- the cloud ends where the history that it leads to begins
-  step_begins : WhereTold (g.objects d) (Begins s.epoch t.kept)
-  step_begins =
-      WhereTold-from (g.objects d) (Begins s.epoch t.kept)
-      (λ objects held. begins_on s.epoch s.kept t.kept objects (step_begins_same Scarce s t f outs stays step) (begins_at s objects (WhereTold-at (g.objects d) (IsBeside s) objects held is.cloud)))
-
-  step_recoverable : SameCloud g d e → BothTold (λ old new. Unit {0}) (g.image d) (g.image e) → IsRecoverable g t e
-  step_recoverable cloud both = recoverable_step g d e s t f outs step stays cloud both is
+-- behind a step that is no restart the cloud has the beginning of the history that it leads to
+step_begins : {S : Type 0} (g : Ghosts S) (d : S) (s t : State) (j : JournalView) (f : InFrame) (outs : List OutFrame) → Step Scarce s f outs t → (IsRestart f → ⊥) → Invariant g s.epoch s.kept j d
+    → WhereTold (g.objects d) (Begins s.epoch t.kept)
+step_begins g d s t j f outs step stays on =
+    WhereTold-from (g.objects d) (Begins s.epoch t.kept)
+    (λ objects held. begins_on s.epoch s.kept t.kept objects (step_extends Scarce s t f outs stays step) (begins_at g s.epoch s.kept j d on objects held))
 
 -- a session, and the one that it stands for, put in the places of others
-pub stands_with : {S : Type 0} (g : Ghosts S) (d : S) (w : WorldView) (s : State) (number : ℕ) (slot : Session) (session : meaning.Session) → number < session_count → Stands g w d s → StandsFor slot session
+pub stands_with : {S : Type 0} (g : Ghosts S) (d : S) (w : WorldView) (s : State) (number : ℕ) (slot : Session) (session : meaning.Session) → number < session_count → Stands g w d s → SessionStandsFor slot session
     → Stands g (record w { sessions = set w.sessions number slot }) d (with_session s number session)
 stands_with g d w s number slot session lt stands for = record {
   volume = stands.volume;
   area = stands.area;
-  recoverable = recoverable_but g d s s.moment (set s.sessions number session) stands.recoverable;
-  service = (let p = stands.service in record { epoch = p.epoch; tree = p.tree; moment = p.moment; journal = p.journal; kept = p.kept });
+  told = stands.told;
+  service = (let p = stands.service in record { epoch = p.epoch; tree = p.tree; moment = p.moment; invariant = p.invariant });
   count = length-set w.sessions number slot ∙ stands.count;
   state_count = length-set s.sessions number session ∙ stands.state_count;
   sessions = λ k.
@@ -93,13 +79,13 @@ stands_with g d w s number slot session lt stands for = record {
 -- ---- the payload of a frame
 
 -- what an open session of the world stands for
-open_of : (received : Received) (x : meaning.Session) → StandsFor (Open received) x → (stream : List ℕ) × (x ≡ meaning.Open stream) × StandsAt received stream
+open_of : (received : Received) (x : meaning.Session) → SessionStandsFor (Open received) x → (stream : List ℕ) × (x ≡ meaning.Open stream) × StandsAt received stream
 open_of received (meaning.Open stream) h = (stream, refl, h)
 open_of received meaning.Absent h = absurd h
 open_of received meaning.Closed h = absurd h
 
 -- what another one stands for is passed over
-passed : (slot : Session) (x : meaning.Session) (number : ℕ) (payload : List ℕ) (s : State) → ((received : Received) → slot ≡ Open received → ⊥) → StandsFor slot x → StepBytes Scarce x number payload s [] s
+passed : (slot : Session) (x : meaning.Session) (number : ℕ) (payload : List ℕ) (s : State) → ((received : Received) → slot ≡ Open received → ⊥) → SessionStandsFor slot x → StepBytes Scarce x number payload s [] s
 passed slot meaning.Absent number payload s closed h = (refl, refl)
 passed slot meaning.Closed number payload s closed h = (refl, refl)
 passed (Open received) (meaning.Open stream) number payload s closed h = absurd (closed received refl)
@@ -110,7 +96,7 @@ passed (Closed received) (meaning.Open stream) number payload s closed h = absur
 abbrev with_sessions : WorldView → List Session → WorldView
 with_sessions w sessions = record w { sessions = sessions }
 
-closed_stands : (slot : Session) (x : meaning.Session) → StandsFor slot x → StandsFor (closed slot) (meaning.ended x)
+closed_stands : (slot : Session) (x : meaning.Session) → SessionStandsFor slot x → SessionStandsFor (closed slot) (meaning.ended x)
 closed_stands Absent meaning.Absent h = tt
 closed_stands Absent (meaning.Open stream) h = absurd h
 closed_stands Absent meaning.Closed h = absurd h
@@ -139,7 +125,8 @@ leaves_last g d e s f u leaves =
 -- where no call of the disk was made
 nothing_happens : {S : Type 0} (g : Ghosts S) (w : WorldView) (d : S) (s : State) → Stands g w d s → LeavesFinding g d d s.epoch s.kept.mark s.kept
 nothing_happens g w d s stands =
-    leaves_finding g d d s.epoch s.kept.mark s.kept stands.recoverable.legal (stands_begins g w d s stands) (went_nowhere g s.kept d stands.service.kept).leaves
+    let on = stands.service.invariant in
+    leaves_finding g d d s.epoch s.kept.mark s.kept on.legal (stands_begins g w d s stands) (went_nowhere g s.epoch s.kept w.service.journal d on).leaves
 
 -- what is found now is found behind a step, where the site tells what it told before
 found_behind : {S : Type 0} (g : Ghosts S) (s t : S) (epoch : ℕ) (kept : Kept) (R : List ℕ → List ℕ → Type 0) (Q : CloudMap → CloudMap → Type 0) → BothTold R (g.image s) (g.image t) → BothTold Q (g.objects s) (g.objects t)
@@ -152,13 +139,13 @@ found_behind g s t epoch kept R Q images clouds now =
     both_told_at g t (λ r h. (image : List ℕ) (objects : CloudMap) → MayLeaveNow g t image objects → FindsPrefix epoch kept.mark kept image objects) i.0 o.0 i.1 o.1 now)
 
 -- in the payload of a session
-module _ {S : Type 0} (g : Ghosts S) (d e : S) (s : State) (n : ℕ) (payload : List ℕ) (is : IsRecoverable g s d) where
+module _ {S : Type 0} (g : Ghosts S) (d e : S) (s : State) (n : ℕ) (payload : List ℕ) (j : JournalView) (on : Invariant g s.epoch s.kept j d) where
   -- the history behind a record under way is legal, and begins where the cloud ends
   under_legal : (u : RecordUnderWay s (Bytes n payload)) → IsLegalHistory u.next.kept.history
-  under_legal u = step_legal Scarce s u.next (Bytes n (take u.handled.1 payload)) (u.said ++ u.own) u.handled.4 is.legal
+  under_legal u = step_legal Scarce s u.next (Bytes n (take u.handled.1 payload)) (u.said ++ u.own) u.handled.4 on.legal
 
   under_begins : (u : RecordUnderWay s (Bytes n payload)) → WhereTold (g.objects d) (Begins s.epoch u.next.kept)
-  under_begins u = step_begins g d e s u.next (Bytes n (take u.handled.1 payload)) (u.said ++ u.own) u.handled.4 (λ r. r) is
+  under_begins u = step_begins g d s u.next j (Bytes n (take u.handled.1 payload)) (u.said ++ u.own) u.handled.4 (λ r. r) on
 
   under_epoch : (u : RecordUnderWay s (Bytes n payload)) → u.next.epoch ≡ s.epoch
   under_epoch u = (step_same Scarce s u.next (Bytes n (take u.handled.1 payload)) (u.said ++ u.own) (λ r. r) u.handled.4).1
@@ -206,17 +193,16 @@ module _ {S : Type 0} (g : Ghosts S) (w : WorldView) (d e : S) (number : ℕ) (p
   pub stepped_open : (received : Received) (later : ServiceView) (next : Session) → get_or w.sessions number Absent ≡ Open received → Handled g number w.service d received payload later e next sink
       → Stepped g w d (Bytes number payload) (record w { service = later; sessions = set w.sessions number next }) e sink
   stepped_open received later next slot handled = λ s stands.
-      let at = open_of received (session_at s number) (subst (λ (x : Session). StandsFor x (session_at s number)) slot (stands.sessions number)) in
+      let at = open_of received (session_at s number) (subst (λ (x : Session). SessionStandsFor x (session_at s number)) slot (stands.sessions number)) in
       let h = handled s at.0 (omega (arith, stands.state_count, lt)) at.1 stands.service at.2 in
       let new : State = with_session (with_kept s h.1) number h.0 in
       let step : Step Scarce s (Bytes number payload) h.2 new = h.5 in
-      let same = step_begins_same Scarce s new (Bytes number payload) h.2 (λ r. r) step in
-      let ready : IsRecoverable g new e = step_recoverable g d e s new (Bytes number payload) h.2 step (λ r. r) stands.recoverable h.7.beside h.7.tells in
+      let x : Extends s.kept h.1 = step_extends Scarce s new (Bytes number payload) h.2 (λ r. r) step in
       let there : Stands g (record w { service = later }) e (with_kept s h.1) =
       record {
-        volume = stands.volume ∙ sym same.volume;
-        area = stands.area ∙ sym same.size;
-        recoverable = recoverable_but g e new s.moment s.sessions ready;
+        volume = stands.volume ∙ ap (λ (t : Tree). t.volume) (sym x.tree);
+        area = stands.area ∙ sym x.size;
+        told = stands.told ∙ sym (tells_alike g d e h.7.beside h.7.tells);
         service = h.4;
         count = stands.count;
         state_count = stands.state_count;
@@ -228,7 +214,7 @@ module _ {S : Type 0} (g : Ghosts S) (w : WorldView) (d e : S) (number : ℕ) (p
         step,
         then,
         h.6,
-        payload_leaves g d e s number payload stands.recoverable h.2 h.7.leaves,
+        payload_leaves g d e s number payload w.service.journal stands.service.invariant h.2 h.7.leaves,
         stands_find g (record w { service = later; sessions = set w.sessions number next }) e new then,
       )
 
@@ -242,15 +228,15 @@ module _ {S : Type 0} (g : Ghosts S) (w : WorldView) (d e : S) (number : ℕ) (p
 
   pub stepped_part : (received : Received) → get_or w.sessions number Absent ≡ Open received → HandledPart g number w.service d received payload e sink → SteppedPart g w d (Bytes number payload) e sink
   stepped_part received slot handled = λ s stands.
-      let at = open_of received (session_at s number) (subst (λ (x : Session). StandsFor x (session_at s number)) slot (stands.sessions number)) in
+      let at = open_of received (session_at s number) (subst (λ (x : Session). SessionStandsFor x (session_at s number)) slot (stands.sessions number)) in
       let h = handled s at.0 (omega (arith, stands.state_count, lt)) at.1 stands.service at.2 in
       record {
         under = h.under;
         kept = h.kept;
         less = h.less;
         given = h.given;
-        leaves = payload_leaves g d e s number payload stands.recoverable (h.under.said ++ h.under.own) h.went.leaves;
-        behind = stable_behind g d e s number payload stands.recoverable (h.under.said ++ h.under.own) h.under h.went h.stable;
+        leaves = payload_leaves g d e s number payload w.service.journal stands.service.invariant (h.under.said ++ h.under.own) h.went.leaves;
+        behind = stable_behind g d e s number payload w.service.journal stands.service.invariant (h.under.said ++ h.under.own) h.under h.went h.stable;
         rest = h.rest;
         last = h.last;
         goes_on = h.goes_on;
@@ -258,15 +244,15 @@ module _ {S : Type 0} (g : Ghosts S) (w : WorldView) (d e : S) (number : ℕ) (p
 
   pub stepped_down : (received : Received) → get_or w.sessions number Absent ≡ Open received → HandledDown g number w.service d received payload e sink → SteppedDown g w d (Bytes number payload) e sink
   stepped_down received slot handled = λ s stands.
-      let at = open_of received (session_at s number) (subst (λ (x : Session). StandsFor x (session_at s number)) slot (stands.sessions number)) in
+      let at = open_of received (session_at s number) (subst (λ (x : Session). SessionStandsFor x (session_at s number)) slot (stands.sessions number)) in
       let h = handled s at.0 (omega (arith, stands.state_count, lt)) at.1 stands.service at.2 in
       record {
         under = h.under;
         unsaid = h.unsaid;
         own_is = h.own_is;
         given = h.given;
-        leaves = payload_leaves g d e s number payload stands.recoverable (h.under.said ++ h.under.own) h.leaves;
-        behind = payload_behind g d e s number payload stands.recoverable h.under h.under.mid.kept.mark h.behind;
+        leaves = payload_leaves g d e s number payload w.service.journal stands.service.invariant (h.under.said ++ h.under.own) h.leaves;
+        behind = payload_behind g d e s number payload w.service.journal stands.service.invariant h.under h.under.mid.kept.mark h.behind;
       }
 
 module _ {S : Type 0} (g : Ghosts S) (w : WorldView) (d : S) (told : Option (List ℕ)) where
@@ -279,7 +265,7 @@ module _ {S : Type 0} (g : Ghosts S) (w : WorldView) (d : S) (told : Option (Lis
   stepped_passed number payload slot is closed = λ s stands.
       let same : set w.sessions number slot ≡ w.sessions = ap (λ (x : Session). set w.sessions number x) (sym is) ∙ set-get_or w.sessions number Absent in
       let pass : (bytes : List ℕ) → Step Scarce s (Bytes number bytes) [] s =
-      λ bytes. passed slot (session_at s number) number bytes s closed (subst (λ (x : Session). StandsFor x (session_at s number)) is (stands.sessions number)) in
+      λ bytes. passed slot (session_at s number) number bytes s closed (subst (λ (x : Session). SessionStandsFor x (session_at s number)) is (stands.sessions number)) in
       let under : RecordUnderWay s (Bytes number payload) = record { said = []; mid = s; own = []; next = s; handled = (0, 0, omega arith, pass (take 0 payload), pass (take 0 payload)); one = omega arith } in
       let then = subst (λ (ss : List Session). Stands g (with_sessions w ss) d s) (sym same) stands in
       ([], s, pass payload, then, Given-none told, leaves_last g d d s (Bytes number payload) under (nothing_happens g w d s stands), stands_find g (with_sessions w (set w.sessions number slot)) d s then)
@@ -289,7 +275,7 @@ module _ {S : Type 0} (g : Ghosts S) (w : WorldView) (d : S) (told : Option (Lis
   -- a session begins
   pub stepped_begin : (number : ℕ) → number < session_count → Stepped g w d (Begin number) (with_sessions w (set w.sessions number (Open nothing))) d untouched
   stepped_begin number lt = λ s stands.
-      let at : StandsAt nothing [] = record { bytes = tt; goes_on = tt; records = []; read = reads_nothing } in
+      let at : StandsAt nothing [] = record { bytes = AreBytes-zeros 0; goes_on = tt; records = []; read = reads_nothing } in
       let t : State = with_session s number (meaning.Open []) in
       let then = stands_with g d w s number (Open nothing) (meaning.Open []) lt stands at in
       ([], t, (refl, refl), then, Given-none told, leaves_last g d d s (Begin number) (whole s (Begin number) [] t (refl, refl, (refl, refl)) (omega arith)) (nothing_happens g w d s stands), stands_find g (with_sessions w (set w.sessions number (Open nothing))) d t then)
@@ -314,8 +300,8 @@ module _ {S : Type 0} (g : Ghosts S) (w : WorldView) (d : S) (told : Option (Lis
       record {
         volume = stands.volume;
         area = stands.area;
-        recoverable = recoverable_but g d s at s.sessions stands.recoverable;
-        service = record { epoch = p.epoch; tree = p.tree; moment = refl; journal = p.journal; kept = p.kept };
+        told = stands.told;
+        service = record { epoch = p.epoch; tree = p.tree; moment = refl; invariant = p.invariant };
         count = stands.count;
         state_count = stands.state_count;
         sessions = stands.sessions;
@@ -328,10 +314,9 @@ module _ {S : Type 0} (g : Ghosts S) (w : WorldView) (d : S) (told : Option (Lis
 stats_are : {S : Type 0} (g : Ghosts S) (w : WorldView) (d : S) (s : State) → Stands g w d s → IsSome w.service.journal.newer → stats_shown w ≡ stats_of s
 stats_are g w d s stands area =
     let p = stands.service in
-    let on = p.kept in
-    let newer : IsSome s.kept.journal.newer = subst (λ (j : JournalView). IsSome j.newer) p.journal area in
-    let last : last_of w.service.journal ≡ history_length s.kept.history = ap (λ (j : JournalView). last_of j) p.journal ∙ last_is g s.kept d on newer in
-    let mark : number_behind w.service.journal.newer 0 ≡ s.kept.mark = ap (λ (j : JournalView). number_behind j.newer 0) p.journal ∙ on.stored in
+    let on = p.invariant in
+    let last : last_of w.service.journal ≡ history_length s.kept.history = last_is g s.epoch s.kept w.service.journal d on area in
+    let mark : number_behind w.service.journal.newer 0 ≡ s.kept.mark = on.last ∙ sym on.marked in
     λ k. record { history = last k; mark = mark k; epoch = p.epoch k; covers = 0; merged = 0; residents = 0; proxy_bytes = 0; cleaner_bytes = 0 }
 
 -- the frame that shows them is handled at once
@@ -365,7 +350,7 @@ pub stepped_ended : {S : Type 0} (g : Ghosts S) (w v : WorldView) (d e : S) (f :
 stepped_ended g w v d e f sink over stepped = λ s stands.
     let h = stepped s stands in
     let k = h.3 in
-    (h.0, h.1, h.2, record { volume = k.volume; area = k.area; recoverable = k.recoverable; service = k.service; count = k.count; state_count = k.state_count; sessions = k.sessions }, h.4, h.5, h.6)
+    (h.0, h.1, h.2, record { volume = k.volume; area = k.area; told = k.told; service = k.service; count = k.count; state_count = k.state_count; sessions = k.sessions }, h.4, h.5, h.6)
 
 -- ---- restarts
 
@@ -422,7 +407,7 @@ module _ {S : Type 0} (g : Ghosts S) (old : WorldView) (s t : S) (found : Found)
     bare_behind epoch kept now =
         both_told_from g s (λ read held. (image : List ℕ) (objects : CloudMap) → MayLeaveNow g t image objects → FindsPrefix epoch kept.mark kept image objects)
         (λ read held is_read held_is.
-        let mid = told_there (λ r l. (older newer : List (List ℕ)) → journal_stands old.service.journal r older newer → journal_stands (wiped old.service.journal) l [] []) (g.image s) (g.image m) read holds is_read in
+        let mid = told_there (λ r l. (older newer : List (List ℕ)) → StandsFor old.service.journal r older newer → StandsFor (wiped old.service.journal) l [] []) (g.image s) (g.image m) read holds is_read in
         both_told_at g m (λ r h. (image : List ℕ) (objects : CloudMap) → MayLeaveNow g t image objects → FindsPrefix epoch kept.mark kept image objects) mid.0 held mid.1 (beside.objects ∙ held_is)
         (found_behind g m t epoch kept (λ old new. Unit {0}) (λ old new. new ≡ claimed old) images claims now))
 

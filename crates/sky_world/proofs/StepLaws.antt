@@ -5,7 +5,8 @@ use Rattle.std.proofs.lemmas.List.{get_or-set_same, set-set}
 use Rattle.sky_record.specs.Stream.{Progress, AtHeader, InFragment, Whole, TooLong}
 use Rattle.sky_script.specs.Frame as frame
 use Rattle.sky_script.specs.Frame.{OutFrame}
-use Rattle.sky_world.specs.Meaning.{State, Kept, Session, Absent, Closed, Memory, Ample, Scarce, Answered, by_meaning, put_off, out_of_memory, after_message, after_reply, puts_off, service_of, session_at, with_kept, with_session, frame_for, is_open, Passes, Then, WhereOpen, Closes, StepRecord, StepRecords, StepProgress}
+use Rattle.sky_world.specs.Meaning.{State, Session, Absent, Closed, Supply, Ample, Scarce, Answered, by_meaning, put_off, out_of_memory, after_message, after_reply, puts_off, service_of, session_at, with_kept, with_session, frame_for, is_open, Passes, Then, WhereOpen, Closes, StepRecord, StepRecords, StepProgress}
+use Rattle.sky_sound.specs.Kept.{Kept}
 use Rattle.sky_world.specs.Message.{meaning_of}
 use Rattle.sky_world.specs.Service.{reply_to, reply_put_off}
 
@@ -42,15 +43,15 @@ open_or_not n s = either (is_open (session_at s n))
 -- ---- records, and further records
 
 -- a session that is not open has its records passed over
-pub records_pass : (mem : Memory) (n : ℕ) (records : List (List ℕ)) (s : State) (outs : List OutFrame) (new : State) → is_open (session_at s n) ≡ false → StepRecords mem n records s outs new → Passes s outs new
+pub records_pass : (mem : Supply) (n : ℕ) (records : List (List ℕ)) (s : State) (outs : List OutFrame) (new : State) → is_open (session_at s n) ≡ false → StepRecords mem n records s outs new → Passes s outs new
 records_pass mem n [] s outs new e steps = steps
 records_pass mem n (bytes ∷ records) s outs new e steps = of_closed (Then (StepRecord mem n bytes) (StepRecords mem n records)) n s outs new e steps
 
-pub records_passed : (mem : Memory) (n : ℕ) (records : List (List ℕ)) (s : State) → is_open (session_at s n) ≡ false → StepRecords mem n records s [] s
+pub records_passed : (mem : Supply) (n : ℕ) (records : List (List ℕ)) (s : State) → is_open (session_at s n) ≡ false → StepRecords mem n records s [] s
 records_passed mem n [] s e = (refl, refl)
 records_passed mem n (bytes ∷ records) s e = where_closed (Then (StepRecord mem n bytes) (StepRecords mem n records)) n s [] s e (refl, refl)
 
-pub records_then : (mem : Memory) (n : ℕ) (records further : List (List ℕ)) (s : State) (a : List OutFrame) (t : State) (b : List OutFrame) (u : State)
+pub records_then : (mem : Supply) (n : ℕ) (records further : List (List ℕ)) (s : State) (a : List OutFrame) (t : State) (b : List OutFrame) (u : State)
     → StepRecords mem n records s a t → StepRecords mem n further t b u → StepRecords mem n (records ++ further) s (a ++ b) u
 records_then mem n [] further s a t b u p q =
     let from : StepRecords mem n further s b u = subst (λ (x : State). StepRecords mem n further x b u) p.1 q in
@@ -75,7 +76,7 @@ abbrev pub HasOutcome : (State → List OutFrame → State → Type 0) → State
 HasOutcome Does s = (outs : List OutFrame) × (new : State) × Does s outs new
 
 -- by what it means a record always has an answer
-pub record_some : (mem : Memory) (n : ℕ) (bytes : List ℕ) (s : State) → HasOutcome (StepRecord mem n bytes) s
+pub record_some : (mem : Supply) (n : ℕ) (bytes : List ℕ) (s : State) → HasOutcome (StepRecord mem n bytes) s
 record_some mem n bytes s =
     elim (either (puts_off s (meaning_of bytes))) [
       | inl e ↦
@@ -87,7 +88,7 @@ record_some mem n bytes s =
           (frame_for n reply ∷ [], after_reply n reply (with_kept s after), record { reply = reply; after = after; answered = by_meaning e refl refl; answers = refl; leads = refl })
     ]
 
-pub records_some : (mem : Memory) (n : ℕ) (records : List (List ℕ)) (s : State) → HasOutcome (StepRecords mem n records) s
+pub records_some : (mem : Supply) (n : ℕ) (records : List (List ℕ)) (s : State) → HasOutcome (StepRecords mem n records) s
 records_some mem n [] s = ([], s, (refl, refl))
 records_some mem n (bytes ∷ records) s =
     let First : State → List OutFrame → State → Type 0 = StepRecord mem n bytes in

@@ -10,7 +10,7 @@ use Rattle.sky_entry.proofs.EntryLaws.{entry_again}
 use Rattle.sky_nfs.specs.History.{History}
 use Rattle.sky_nfs.specs.declared.call.Change.{Change}
 use Rattle.sky_sound.specs.Entries.{IsStorable, change_of, if_whole}
-use Rattle.sky_world.specs.Disk.{AreStorable}
+use Rattle.sky_sound.specs.Invariant.{AreStorable}
 use Rattle.sky_world.specs.Meaning.{with_change}
 
 -- ---- facts of each element

@@ -1,13 +1,12 @@
 -- Laws of a restart without the journal: all areas are closed, and then the site is opened.
-use Rattle.std.specs.Prelude.{is_some, ◌&&◌}
-use Rattle.std.proofs.Common.{◌≡◌, ◌⊎◌, ℕ, ◌+◌, ◌-◌, ◌≤◌, true, false, Option, Some, None, Ok, List, [], ◌∷◌, ◌++◌, map, take, length, inl, inr, ⊎_elim, refl, sym, ap, subst, ◌∙◌, arith}
-use Rattle.std.proofs.lemmas.Bool.{cases_Bool}
-use Rattle.std.proofs.lemmas.List.{append-nil, length-append, length-map, length-take, map-append, take-map, take-take, take_at}
+use Rattle.std.specs.Prelude.{drop, is_some, ◌&&◌}
+use Rattle.std.proofs.Common.{◌≡◌, ◌⊎◌, ℕ, ◌+◌, ◌-◌, ◌≤◌, zero, suc, true, Option, Some, None, Ok, List, [], ◌∷◌, ◌++◌, map, take, length, inl, inr, refl, sym, ap, subst, ◌∙◌, arith}
+use Rattle.std.proofs.lemmas.List.{append-nil, drop_all, length-append, length-drop, length-map, length-take, map-append, take-map, take-take, take_at}
 use Rattle.sky_entry.specs.Entry.{entry_bytes}
-use Rattle.sky_journal.specs.Journal.{JournalView, AreInOrder, Reads, ReadsAs, StandsFor, base_in, entries, numbered_in, wiped, without_newer}
+use Rattle.sky_journal.specs.Journal.{JournalView, AreInOrder, ReadsEntries, ReadsAs, StandsFor, base_in, entries, first_base, numbered_in, wiped, without_newer}
 use Rattle.sky_journal.specs.Text.{numbered}
 use Rattle.sky_journal.specs.declared.open_area.OpenArea.{OpenArea}
-use Rattle.sky_journal.proofs.Journals.{IsJournal-wiped, StandsFor-but}
+use Rattle.sky_journal.proofs.Journals.{IsJournal-wiped}
 use Rattle.sky_journal.proofs.Reading.{reads, reads-later}
 use Rattle.sky_nfs.specs.History.{History}
 use Rattle.sky_nfs.specs.declared.call.Change.{Change}
@@ -19,15 +18,20 @@ use Rattle.sky_outside.proofs.MomentLaws.{LeavesOnly-then}
 use Rattle.sky_outside.proofs.ToldLaws.{WhereTold-at, WhereTold-from}
 use Rattle.sky_recover.specs.Opening.{BeginsAt, Found, IsFoundOn, IsLeftOf, IsOpenOn, LeavesFound}
 use Rattle.sky_sound.specs.Boot.{claimed}
+use Rattle.sky_sound.specs.Cloud.{epoch_after}
+use Rattle.sky_sound.specs.Invariant.{DiskHas, Invariant, entries_between, entries_to}
+use Rattle.sky_sound.specs.Kept.{JournalState, Kept, emptied, journal_state, left_open}
 use Rattle.sky_sound.specs.Recovery.{FindsSame, IsSound, history_of}
 use Rattle.sky_sound.proofs.Texts.{ok_same}
-use Rattle.sky_world.specs.Disk.{AreStorable, HasKept, HoldsPrefix, IsKeptOn, LeavesPrefix, ReadsAsPrefix, entries_to}
+use Rattle.sky_world.specs.Disk.{HoldsPrefix, LeavesPrefix, ReadsTo}
 use Rattle.sky_world.specs.Finding.{FindsPrefix, LeavesFinding}
-use Rattle.sky_world.specs.Meaning.{Kept, State, Restarts, covered_found, cut_to, opening, start}
+use Rattle.sky_world.specs.Meaning.{State, Restarts, given_up, opening}
 use Rattle.sky_world.specs.Opening.{reopened_world}
-use Rattle.sky_world.specs.World.{IsBeside, Stands, WorldView, tells}
-use Rattle.sky_world.proofs.FindingLaws.{Begins, begins_at, both_told_at, both_told_from, finds_at, finds_same, history_at, leaves_as, leaves_finding, legal_cut, prefix_read, stands_begins, storable_take}
-use Rattle.sky_world.proofs.ReopenLaws.{IsNew, found_known, has_told, is_new, restarts_known, restarts_untold, stands_again, told_on, with_spare}
+use Rattle.sky_world.specs.World.{Stands, WorldView, tells}
+use Rattle.sky_world.proofs.DiskLaws.{as_kept, prefix_read, read_has, size_is, storable_to}
+use Rattle.sky_world.proofs.FindingLaws.{Begins, begins_at, both_told_at, both_told_from, finds_at, finds_same, history_at, leaves_as, leaves_finding, sound_at, stands_begins}
+use Rattle.sky_world.proofs.PartLaws.{history_between}
+use Rattle.sky_world.proofs.ReopenLaws.{Matches, found_journal, has_told, matches_to, reached, told_on}
 
 -- ---- what the older area has
 
@@ -55,47 +59,91 @@ older_first volume size before (Some a) (Some b) older newer es left order list 
     let le : length older ≤ length es = omega (arith, ap (λ (l : List (List ℕ)). length l) all, length-append older newer) in
     (length older, le, subst (λ (x : List (List ℕ)). ReadsAs volume size before (numbered before x) left) first (subst (λ (b : ℕ). ReadsAs volume size b (numbered b older) left) base read))
 
+take_drop : {A : Type 0} (k m : ℕ) (xs : List A) → take k (drop m xs) ≡ drop m (take (m + k) xs)
+take_drop k zero xs = ap (λ (n : ℕ). take n xs) (omega arith)
+take_drop {A} k (suc m) [] = nothing k ∙ sym (ap (λ (n : ℕ). let none : List A = [] in drop (suc m) (take n none)) (let e : suc m + k ≡ suc (m + k) = omega arith in e))
+  where
+    nothing : (n : ℕ) → (let none : List A = [] in take n none ≡ none)
+    nothing zero = refl
+    nothing (suc n) = refl
+take_drop k (suc m) (x ∷ xs) = take_drop k m xs ∙ sym (ap (λ (n : ℕ). drop (suc m) (take n (x ∷ xs))) (let e : suc m + k ≡ suc (m + k) = omega arith in e))
+
 -- ---- what is left of the journal
 
-nothing_to : (history : History) → numbered history.before (entries_to history history.before) ≡ []
-nothing_to history =
-    let none : history.before - history.before ≡ 0 = omega arith in
-    ap (λ (n : ℕ). numbered history.before (map entry_bytes (take n history.changes))) none ∙ none_numbered history.before
+-- of a history, no entries are between a number and itself
+none_between : (h : History) (n : ℕ) → h.before ≤ n → entries_between h n n ≡ []
+none_between h n least =
+    drop_all (n - h.before) (entries_to h n) (omega (arith, length-map (take (n - h.before) h.changes) entry_bytes, length-take (n - h.before) h.changes, least))
 
--- where all areas are closed, the changes that came before are left
-none_prefix : (kept : Kept) (left : List ℕ) → Reads (wiped kept.journal) [] [] left → ReadsAsPrefix kept kept.history.before left
-none_prefix kept left read =
-    let b = kept.history.before in
-    let list : List (ℕ × List ℕ) = numbered b (entries_to kept.history b) in
-    reads-later kept.journal.volume kept.journal.size 0 b list left (subst (λ (l : List (ℕ × List ℕ)). ReadsAs kept.journal.volume kept.journal.size 0 l left) (sym (nothing_to kept.history)) read) (omega arith)
+-- where all areas are closed, the changes that are completed are left
+none_prefix : (kept : Kept) (volume size : ℕ) (left : List ℕ) → volume ≡ kept.history.tree.volume → size ≡ kept.journal.size → kept.history.before ≤ kept.completed
+    → ReadsAs volume size 0 [] left → ReadsTo kept kept.completed left
+none_prefix kept volume size left volume_is size_same begins read =
+    let c : ℕ = kept.completed in
+    let nothing : (let none : List (ℕ × List ℕ) = [] in none ≡ numbered c (entries_between kept.history c c)) =
+    sym (ap (λ (es : List (List ℕ)). numbered c es) (none_between kept.history c begins) ∙ none_numbered c) in
+    record {
+      base = c;
+      least = begins;
+      most = omega arith;
+      reads = reads-later kept.history.tree.volume kept.journal.size 0 c (numbered c (entries_between kept.history c c)) left
+          (as_kept volume kept.history.tree.volume size kept.journal.size 0 [] (numbered c (entries_between kept.history c c)) left volume_is size_same nothing read) (omega arith);
+    }
 
-module _ {S : Type 0} (g : Ghosts S) (kept : Kept) (s : S) (on : IsKeptOn g kept s) where
+module _ {S : Type 0} (g : Ghosts S) (epoch : ℕ) (kept : Kept) (j : JournalView) (s : S) (on : Invariant g epoch kept j s) where
+  size_same : j.size ≡ kept.journal.size
+  size_same = size_is g epoch kept j s on
+
   -- the entries of the older area are those of the first changes
-  older_prefix : (image left : List ℕ) → (has : HasKept kept image) → Reads (without_newer kept.journal) [] has.older left → HoldsPrefix kept.history.before kept left
+  older_prefix : (image left : List ℕ) → (has : DiskHas kept j image) → ReadsEntries (without_newer j) [] has.older left → HoldsPrefix kept.completed kept left
   older_prefix image left has read =
       let h = kept.history in
-      let b = h.before in
-      let j = kept.journal in
-      let cs = take (kept.mark - b) h.changes in
-      let es : List (List ℕ) = entries_to h kept.mark in
+      let b : ℕ = first_base j in
+      let es : List (List ℕ) = entries_between h b kept.stored in
       let list : entries j has.older has.newer ≡ numbered b es =
       ap (λ (n : List (List ℕ)). entries j has.older n) (sym (append-nil has.newer)) ∙ has.numbers [] ∙ ap (λ (n : List (List ℕ)). numbered b n) (append-nil es) in
-      let p = older_first j.volume j.size b j.older j.newer has.older has.newer es left on.is.in_order list has.base read in
+      let p = older_first j.volume j.size b j.older j.newer has.older has.newer es left on.is.in_order list refl read in
       let k : ℕ = p.0 in
-      let few : length es ≡ length cs = length-map cs entry_bytes in
-      let count : k ≤ kept.mark - b = omega (arith, p.1, few, length-take (kept.mark - b) h.changes) in
-      let there : k ≡ b + k - b = omega arith in
-      let same : take k es ≡ entries_to h (b + k) =
-      take-map entry_bytes k cs ∙ ap (λ (x : List Change). map entry_bytes x) (take-take k (kept.mark - b) h.changes count) ∙ ap (λ (n : ℕ). map entry_bytes (take n h.changes)) there in
-      (b + k, omega arith, omega (arith, count, on.least, on.most), subst (λ (x : List (List ℕ)). ReadsAs j.volume j.size b (numbered b x) left) same p.2, storable_take (b + k - b) h.changes on.storable)
+      let all : length (entries_to h kept.stored) ≡ length (take (kept.stored - h.before) h.changes) = length-map (take (kept.stored - h.before) h.changes) entry_bytes in
+      let few : length es ≡ length (entries_to h kept.stored) - (b - h.before) = length-drop (b - h.before) (entries_to h kept.stored) in
+      let count : b + k ≤ kept.stored = omega (arith, p.1, few, all, length-take (kept.stored - h.before) h.changes, has.least, has.most, on.completed, on.stored) in
+      let there : b - h.before + k ≡ b + k - h.before = omega (arith, has.least) in
+      let cut : take (b + k - h.before) (entries_to h kept.stored) ≡ entries_to h (b + k) =
+      take-map entry_bytes (b + k - h.before) (take (kept.stored - h.before) h.changes)
+      ∙ ap (λ (x : List Change). map entry_bytes x) (take-take (b + k - h.before) (kept.stored - h.before) h.changes (omega (arith, count))) in
+      let same : take k es ≡ entries_between h b (b + k) =
+      take_drop k (b - h.before) (entries_to h kept.stored) ∙ ap (λ (n : ℕ). drop (b - h.before) (take n (entries_to h kept.stored))) there ∙ ap (λ (x : List (List ℕ)). drop (b - h.before) x) cut in
+      record {
+        n = b + k;
+        least = omega arith;
+        most = omega (arith, count, on.stored);
+        reads = record {
+          base = b;
+          least = has.least;
+          most = has.most;
+          reads = as_kept j.volume h.tree.volume j.size kept.journal.size b (numbered b (take k es)) (numbered b (entries_between h b (b + k))) left on.volume size_same (ap (λ (x : List (List ℕ)). numbered b x) same) p.2;
+        };
+        storable = storable_to kept (b + k) on.storable;
+      }
 
   -- what a crash leaves while the areas are closed
-  wiped_holds : (image left : List ℕ) → (has : HasKept kept image)
-      → Reads kept.journal has.older has.newer left ⊎ Reads (without_newer kept.journal) [] has.older left ⊎ Reads (wiped kept.journal) [] [] left → HoldsPrefix kept.history.before kept left
-  wiped_holds image left has (inl both) = (kept.mark, on.least, on.most, prefix_read kept image left has both, storable_take (kept.mark - kept.history.before) kept.history.changes on.storable)
+  wiped_holds : (image left : List ℕ) → (has : DiskHas kept j image)
+      → ReadsEntries j has.older has.newer left ⊎ ReadsEntries (without_newer j) [] has.older left ⊎ ReadsEntries (wiped j) [] [] left → HoldsPrefix kept.completed kept left
+  wiped_holds image left has (inl both) = record {
+    n = kept.stored;
+    least = omega arith;
+    most = on.stored;
+    reads = prefix_read kept j image left on.volume size_same has both;
+    storable = storable_to kept kept.stored on.storable;
+  }
   wiped_holds image left has (inr (inl older)) = older_prefix image left has older
-  wiped_holds image left has (inr (inr none)) =
-      (kept.history.before, omega arith, omega arith, none_prefix kept left none, storable_take (kept.history.before - kept.history.before) kept.history.changes on.storable)
+  wiped_holds image left has (inr (inr none)) = record {
+    n = kept.completed;
+    least = omega arith;
+    most = omega (arith, on.completed, on.stored);
+    reads = none_prefix kept j.volume j.size left on.volume size_same on.begins none;
+    storable = storable_to kept kept.completed on.storable;
+  }
 
 -- ---- from s to m the areas were closed
 
@@ -103,7 +151,7 @@ module _ {S : Type 0} (g : Ghosts S) (kept : Kept) (s : S) (on : IsKeptOn g kept
 abbrev pub LeavesWiped : {S : Type 0} → Ghosts S → JournalView → S → S → Type 0
 LeavesWiped g j s m =
     WhereTold (g.image s) (λ image. (older newer : List (List ℕ)) → StandsFor j image older newer
-    → LeavesOnly g s m (BesideObjects g s (λ left. Reads j older newer left ⊎ Reads (without_newer j) [] older left ⊎ Reads (wiped j) [] [] left)))
+    → LeavesOnly g s m (BesideObjects g s (λ left. ReadsEntries j older newer left ⊎ ReadsEntries (without_newer j) [] older left ⊎ ReadsEntries (wiped j) [] [] left)))
 
 -- and then there are none
 abbrev pub HoldsNone : {S : Type 0} → Ghosts S → JournalView → S → S → Type 0
@@ -122,124 +170,118 @@ tells_still R (Some x) None c d both e = absurd both
 tells_still R (Some x) (Some y) c d both e = ap is_some (sym e)
 
 module _ {S : Type 0} (g : Ghosts S) (old : WorldView) (s m : S) (state : State) (stands : Stands g old s state) where
-  -- the journal of the program is that of the state, with memory of its own
-  wipe_prefix : LeavesWiped g old.service.journal s m → LeavesPrefix g s m state.kept.history.before state.kept
+  wipe_prefix : LeavesWiped g old.service.journal s m → LeavesPrefix g s m state.kept.completed state.kept
   wipe_prefix leaves =
       let kept = state.kept in
-      let j = kept.journal in
-      let x : ℕ = old.service.journal.spare in
-      let k : JournalView = record j { spare = x } in
-      let known : LeavesWiped g k s m = subst (λ (v : JournalView). LeavesWiped g v s m) stands.service.journal leaves in
-      WhereTold-from (g.image s) (λ read. LeavesOnly g s m (BesideObjects g s (HoldsPrefix kept.history.before kept)))
+      let j : JournalView = old.service.journal in
+      let on = stands.service.invariant in
+      WhereTold-from (g.image s) (λ read. LeavesOnly g s m (BesideObjects g s (HoldsPrefix kept.completed kept)))
       (λ image is.
-      let has = WhereTold-at (g.image s) (HasKept kept) image is stands.service.kept.has in
-      let only = WhereTold-at (g.image s) (λ i. (older newer : List (List ℕ)) → StandsFor k i older newer
-      → LeavesOnly g s m (BesideObjects g s (λ left. Reads k older newer left ⊎ Reads (without_newer k) [] older left ⊎ Reads (wiped k) [] [] left))) image is known
-      has.older has.newer (StandsFor-but j j.pending x j.down image has.older has.newer has.laid) in
-      leaves_as g s m (BesideObjects g s (λ left. Reads k has.older has.newer left ⊎ Reads (without_newer k) [] has.older left ⊎ Reads (wiped k) [] [] left)) (BesideObjects g s (HoldsPrefix kept.history.before kept))
-      (λ left now p. (wiped_holds g kept s stands.service.kept image left has p.0, p.1)) only)
+      let has = read_has g state.epoch kept j s on image is in
+      let only = WhereTold-at (g.image s) (λ i. (older newer : List (List ℕ)) → StandsFor j i older newer
+      → LeavesOnly g s m (BesideObjects g s (λ left. ReadsEntries j older newer left ⊎ ReadsEntries (without_newer j) [] older left ⊎ ReadsEntries (wiped j) [] [] left))) image is leaves
+      has.older has.newer has.laid in
+      leaves_as g s m (BesideObjects g s (λ left. ReadsEntries j has.older has.newer left ⊎ ReadsEntries (without_newer j) [] has.older left ⊎ ReadsEntries (wiped j) [] [] left)) (BesideObjects g s (HoldsPrefix kept.completed kept))
+      (λ left now p. (wiped_holds g state.epoch kept j s on image left has p.0, p.1)) only)
 
   -- a crash at any moment of it leaves a prefix of the history
-  pub wipe_leaves : LeavesWiped g old.service.journal s m → LeavesFinding g s m state.epoch state.kept.history.before state.kept
-  wipe_leaves leaves = leaves_finding g s m state.epoch state.kept.history.before state.kept stands.recoverable.legal (stands_begins g old s state stands) (wipe_prefix leaves)
+  pub wipe_leaves : LeavesWiped g old.service.journal s m → LeavesFinding g s m state.epoch state.kept.completed state.kept
+  wipe_leaves leaves = leaves_finding g s m state.epoch state.kept.completed state.kept stands.service.invariant.legal (stands_begins g old s state stands) (wipe_prefix leaves)
 
   module _ (leaves : LeavesWiped g old.service.journal s m) (holds : HoldsNone g old.service.journal s m) (beside : SameCloud g s m) where
-    wiped_at : WhereTold (g.image m) (λ image. StandsFor (wiped state.kept.journal) image [] [])
+    wiped_at : WhereTold (g.image m) (λ image. StandsFor (wiped old.service.journal) image [] [])
     wiped_at =
-        let j = state.kept.journal in
-        let x : ℕ = old.service.journal.spare in
-        let k : JournalView = record j { spare = x } in
-        let known : HoldsNone g k s m = subst (λ (v : JournalView). HoldsNone g v s m) stands.service.journal holds in
-        told_on (λ read left. (older newer : List (List ℕ)) → StandsFor k read older newer → StandsFor (wiped k) left [] []) (HasKept state.kept) (λ image. StandsFor (wiped j) image [] []) (g.image s) (g.image m)
-        (λ read left to has.
-        let there = to has.older has.newer (StandsFor-but j j.pending x j.down read has.older has.newer has.laid) in
-        record { size = there.size; older_is = there.older_is; newer_is = there.newer_is; others = there.others })
-        known stands.service.kept.has
+        let j : JournalView = old.service.journal in
+        told_on (λ read left. (older newer : List (List ℕ)) → StandsFor j read older newer → StandsFor (wiped j) left [] []) (DiskHas state.kept j) (λ image. StandsFor (wiped j) image [] []) (g.image s) (g.image m)
+        (λ read left to has. to has.older has.newer has.laid) holds stands.service.invariant.disk
 
-    -- what is left reads as the changes that came before
-    bare_reads : (image : List ℕ) → g.image m ≡ Some image → ReadsAsPrefix state.kept state.kept.history.before image
+    -- what is left reads as the changes that are completed
+    bare_reads : (image : List ℕ) → g.image m ≡ Some image → ReadsTo state.kept state.kept.completed image
     bare_reads image is =
-        let j = state.kept.journal in
+        let j : JournalView = old.service.journal in
+        let on = stands.service.invariant in
         let there = WhereTold-at (g.image m) (λ i. StandsFor (wiped j) i [] []) image is wiped_at in
-        none_prefix state.kept image (reads (wiped j) image [] [] (IsJournal-wiped j stands.service.kept.is) there)
+        none_prefix state.kept j.volume j.size image on.volume (size_is g state.epoch state.kept j s on) on.begins (reads (wiped j) image [] [] (IsJournal-wiped j on.is) there)
 
-    bare_storable : AreStorable (cut_to state.kept.history.before state.kept.history).changes
-    bare_storable = storable_take (state.kept.history.before - state.kept.history.before) state.kept.history.changes stands.service.kept.storable
-
-    bare_prefix : (image : List ℕ) → g.image m ≡ Some image → HoldsPrefix state.kept.history.before state.kept image
-    bare_prefix image is = (state.kept.history.before, omega arith, omega arith, bare_reads image is, bare_storable)
-
-    pub bare_beside : WhereTold (g.objects m) (IsBeside state)
-    bare_beside = subst (λ (o : Option CloudMap). WhereTold o (IsBeside state)) (sym beside.objects) stands.recoverable.cloud
+    bare_prefix : (image : List ℕ) → g.image m ≡ Some image → HoldsPrefix state.kept.completed state.kept image
+    bare_prefix image is =
+        let on = stands.service.invariant in
+        record {
+          n = state.kept.completed;
+          least = omega arith;
+          most = omega (arith, on.completed, on.stored);
+          reads = bare_reads image is;
+          storable = storable_to state.kept state.kept.completed on.storable;
+        }
 
     bare_begins : (objects : CloudMap) → g.objects m ≡ Some objects → Begins state.epoch state.kept objects
-    bare_begins objects held = begins_at state objects (WhereTold-at (g.objects m) (IsBeside state) objects held bare_beside)
+    bare_begins objects held = begins_at g state.epoch state.kept old.service.journal s stands.service.invariant objects (sym beside.objects ∙ held)
 
-    bare_history : (image : List ℕ) (objects : CloudMap) → g.image m ≡ Some image → g.objects m ≡ Some objects
-        → history_of state.kept.journal.volume state.kept.journal.size image objects ≡ Ok (cut_to state.kept.history.before state.kept.history)
-    bare_history image objects is held = history_at state.epoch state.kept state.kept.history.before image objects (bare_reads image is) bare_storable (bare_begins objects held)
+    pub bare_epoch : (objects : CloudMap) → g.objects m ≡ Some objects → epoch_after objects ≡ state.epoch + 1
+    bare_epoch objects held = WhereTold-at (g.objects s) (λ o. epoch_after o ≡ state.epoch + 1) objects (sym beside.objects ∙ held) stands.service.invariant.epoch_is
 
-    pub bare_sound : (image : List ℕ) (objects : CloudMap) → g.image m ≡ Some image → g.objects m ≡ Some objects → IsSound state.kept.journal.volume state.kept.journal.size image objects
-    bare_sound image objects is held = record {
-      no_checkpoint = (bare_begins objects held).no_checkpoint;
-      history = cut_to state.kept.history.before state.kept.history;
-      stands_for = bare_history image objects is held;
-      legal = legal_cut state.kept.history.before state.kept.history stands.recoverable.legal;
-    }
+    abbrev bare_kept : History
+    bare_kept = history_between state.kept.history state.kept.completed state.kept.completed
+
+    bare_history : (image : List ℕ) (objects : CloudMap) → g.image m ≡ Some image → g.objects m ≡ Some objects → history_of state.kept.history.tree.volume state.kept.journal.size image objects ≡ Ok bare_kept
+    bare_history image objects is held =
+        history_at state.epoch state.kept state.kept.completed image objects (bare_reads image is) (storable_to state.kept state.kept.completed stands.service.invariant.storable) (bare_begins objects held)
+
+    pub bare_sound : (image : List ℕ) (objects : CloudMap) → g.image m ≡ Some image → g.objects m ≡ Some objects → IsSound state.kept.history.tree.volume state.kept.journal.size image objects
+    bare_sound image objects is held =
+        sound_at state.epoch state.kept state.kept.completed image objects (bare_reads image is) (storable_to state.kept state.kept.completed stands.service.invariant.storable) (bare_begins objects held)
+        stands.service.invariant.legal
 
     pub bare_tells : state.told ≡ tells g m
     bare_tells =
-        stands.recoverable.told ∙ tells_still (λ read left. (older newer : List (List ℕ)) → StandsFor old.service.journal read older newer → StandsFor (wiped old.service.journal) left [] []) (g.image s) (g.image m) (g.objects s) (g.objects m)
+        stands.told ∙ tells_still (λ read left. (older newer : List (List ℕ)) → StandsFor old.service.journal read older newer → StandsFor (wiped old.service.journal) left [] []) (g.image s) (g.image m) (g.objects s) (g.objects m)
         holds beside.objects
 
     module _ (t : S) where
       -- a crash at any moment from s to t leaves a prefix of the history
-      pub bare_leaves : LeavesFound g old.settings.volume old.settings.journal_area m t → LeavesFinding g s t state.epoch state.kept.history.before state.kept
+      pub bare_leaves : LeavesFound g old.settings.volume old.settings.journal_area m t → LeavesFinding g s t state.epoch state.kept.completed state.kept
       bare_leaves found =
           let epoch = state.epoch in
           let kept = state.kept in
-          let j = kept.journal in
-          let b = kept.history.before in
+          let v : ℕ = kept.history.tree.volume in
+          let z : ℕ = kept.journal.size in
+          let b : ℕ = kept.completed in
           both_told_from g s (λ image objects. LeavesOnly g s t (FindsPrefix epoch b kept))
           (λ image objects is held.
           let first : LeavesOnly g s m (FindsPrefix epoch b kept) = both_told_at g s (λ i o. LeavesOnly g s m (FindsPrefix epoch b kept)) image objects is held (wipe_leaves leaves) in
           let mid = told_there (λ read left. (older newer : List (List ℕ)) → StandsFor old.service.journal read older newer → StandsFor (wiped old.service.journal) left [] []) (g.image s) (g.image m) image holds is in
           let here : g.objects m ≡ Some objects = beside.objects ∙ held in
-          let there : LeavesFound g j.volume j.size m t =
-          subst (λ (v : ℕ). LeavesFound g v j.size m t) stands.volume (subst (λ (z : ℕ). LeavesFound g old.settings.volume z m t) stands.area found) in
-          let second : LeavesOnly g m t (FindsSame j.volume j.size mid.0 objects) =
-          both_told_at g m (λ i o. IsSound j.volume j.size i o → LeavesOnly g m t (FindsSame j.volume j.size i o)) mid.0 objects mid.1 here there (bare_sound mid.0 objects mid.1 here) in
-          let found_mid : FindsPrefix epoch b kept mid.0 objects = finds_at epoch b kept mid.0 objects (bare_prefix mid.0 mid.1) stands.recoverable.legal (bare_begins objects here) in
-          LeavesOnly-then g s m t (FindsPrefix epoch b kept) (FindsSame j.volume j.size mid.0 objects) (FindsPrefix epoch b kept) first second (λ left now p. p) (λ left now same. finds_same epoch b kept mid.0 objects left now found_mid same))
+          let there : LeavesFound g v z m t =
+          subst (λ (x : ℕ). LeavesFound g x z m t) stands.volume (subst (λ (x : ℕ). LeavesFound g old.settings.volume x m t) stands.area found) in
+          let second : LeavesOnly g m t (FindsSame v z mid.0 objects) =
+          both_told_at g m (λ i o. IsSound v z i o → LeavesOnly g m t (FindsSame v z i o)) mid.0 objects mid.1 here there (bare_sound mid.0 objects mid.1 here) in
+          let found_mid : FindsPrefix epoch b kept mid.0 objects = finds_at epoch b kept mid.0 objects (bare_prefix mid.0 mid.1) stands.service.invariant.legal (bare_begins objects here) in
+          LeavesOnly-then g s m t (FindsPrefix epoch b kept) (FindsSame v z mid.0 objects) (FindsPrefix epoch b kept) first second (λ left now p. p) (λ left now same. finds_same epoch b kept mid.0 objects left now found_mid same))
 
-      -- what was found on a site that tells what it has is what the cloud covers
-      bare_known : (found : Found) → IsFoundOn g old.settings.volume old.settings.journal_area m found → state.told ≡ true → found ≡ with_spare found.journal.spare (covered_found state)
+      -- what was found on a site that tells what it has is what is completed
+      bare_known : (found : Found) → IsFoundOn g old.settings.volume old.settings.journal_area m found → state.told ≡ true → Matches old.settings.volume found (given_up state.kept) × (found.epoch ≡ state.epoch + 1)
       bare_known found is told =
           let v = old.settings.volume in
           let a = old.settings.journal_area in
-          let j = state.kept.journal in
-          let b = state.kept.history.before in
+          let kept = state.kept in
+          let j : JournalView = old.service.journal in
+          let on = stands.service.invariant in
           let mid = has_told g m (sym bare_tells ∙ told) in
           let begins = WhereTold-at (g.objects m) (BeginsAt v found) mid.objects mid.held is.cloud in
-          let next_is = WhereTold-at (g.objects m) (IsBeside state) mid.objects mid.held bare_beside in
           let found_is : history_of v a mid.image mid.objects ≡ Ok found.history = both_told_at g m (λ image objects. history_of v a image objects ≡ Ok found.history) mid.image mid.objects mid.is mid.held is.history in
-          let known : history_of v a mid.image mid.objects ≡ Ok (cut_to b state.kept.history) =
-          subst (λ (x : ℕ). history_of x a mid.image mid.objects ≡ Ok (cut_to b state.kept.history)) (sym stands.volume)
-          (subst (λ (z : ℕ). history_of state.kept.journal.volume z mid.image mid.objects ≡ Ok (cut_to b state.kept.history)) (sym stands.area) (bare_history mid.image mid.objects mid.is mid.held)) in
-          found_known v a b (wiped j) state found mid.image [] [] (begins.epoch ∙ next_is.epoch) (ok_same found.history (cut_to b state.kept.history) (history_of v a mid.image mid.objects) found_is known)
-          (WhereTold-at (g.image m) (IsLeftOf v a found) mid.image mid.is is.journal) (sym stands.volume) (sym stands.area) (IsJournal-wiped j stands.service.kept.is)
-          (WhereTold-at (g.image m) (λ image. StandsFor (wiped j) image [] []) mid.image mid.is wiped_at) (omega arith)
+          let known : history_of v a mid.image mid.objects ≡ Ok bare_kept =
+          subst (λ (x : ℕ). history_of x a mid.image mid.objects ≡ Ok bare_kept) (sym stands.volume)
+          (subst (λ (z : ℕ). history_of kept.history.tree.volume z mid.image mid.objects ≡ Ok bare_kept) (sym stands.area) (bare_history mid.image mid.objects mid.is mid.held)) in
+          let same : found.history ≡ bare_kept = ok_same found.history bare_kept (history_of v a mid.image mid.objects) found_is known in
+          let size : j.size ≡ a = size_is g state.epoch kept j s on ∙ sym stands.area in
+          let journal : journal_state found.journal ≡ left_open kept.completed (emptied kept.journal) =
+          found_journal v a kept.completed (wiped j) found mid.image [] [] (ap (λ (x : History). x.before) same) (WhereTold-at (g.image m) (IsLeftOf v a found) mid.image mid.is is.journal)
+          (on.volume ∙ sym stands.volume) size (IsJournal-wiped j on.is) (WhereTold-at (g.image m) (λ image. StandsFor (wiped j) image [] []) mid.image mid.is wiped_at) (omega arith)
+          ∙ ap (λ (x : JournalState). left_open kept.completed (emptied x)) on.journal_is in
+          (matches_to v kept kept.completed (emptied kept.journal) found on.legal on.storable (sym stands.volume) on.begins (omega arith) (omega (arith, on.completed, on.stored)) same journal, begins.epoch ∙ bare_epoch mid.objects mid.held)
 
-      -- the proxy has found what the cloud covers, and the world stands for the state with that
+      -- the proxy has found what is completed, and the world stands for the state with that
       pub restarted_bare : (found : Found) → IsFoundOn g old.settings.volume old.settings.journal_area m found → IsOpenOn g t found → BothTold (λ old new. new ≡ claimed old) (g.objects m) (g.objects t)
-          → BothTold (λ old new. Unit {0}) (g.image m) (g.image t) → (next : State) × Restarts state (covered_found state) (opening found ∷ []) next × Stands g (reopened_world old found) t next
+          → BothTold (λ old new. Unit {0}) (g.image m) (g.image t) → (next : State) × Restarts state (given_up state.kept) (opening found ∷ []) next × Stands g (reopened_world old found) t next
       restarted_bare found is opens claims images =
-          let v = old.settings.volume in
-          let a = old.settings.journal_area in
-          let new : IsNew g v a state.told t found = is_new g v a state.told m t found is opens claims images bare_tells in
-          ⊎_elim
-          (λ (told : state.told ≡ true).
-          let same : found ≡ with_spare found.journal.spare (covered_found state) = bare_known found is told in
-          (record (start state.told (covered_found state)) { moment = state.moment }, restarts_known g old s t state stands (covered_found state) found told same, stands_again g old s t state stands (covered_found state) found new same))
-          (λ (told : state.told ≡ false).
-          (record (start state.told found) { moment = state.moment }, restarts_untold g old s t state stands (covered_found state) found told new, stands_again g old s t state stands found found new refl)) (cases_Bool state.told)
+          reached g old m t state (given_up state.kept) stands.volume stands.area stands.service.moment bare_tells found is opens claims images (λ told. bare_known found is told)

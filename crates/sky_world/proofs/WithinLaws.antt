@@ -1,36 +1,33 @@
 -- Laws of what a crash leaves on the disk within a payload, record by record.
-use Rattle.std.proofs.Common.{◌≡◌, ℕ, ◌≤◌, Option, List, [], ◌++◌, length, take, refl, sym, ap, subst, ◌∙◌, arith, append_assoc}
+use Rattle.std.proofs.Common.{◌≡◌, ℕ, ◌≤◌, Option, List, [], ◌++◌, length, take, refl, sym, ap, subst, ◌∙◌, append_assoc}
 use Rattle.std.proofs.lemmas.List.{append-nil}
+use Rattle.sky_journal.specs.Journal.{JournalView}
 use Rattle.sky_outside.specs.CloudMap.{CloudMap}
 use Rattle.sky_outside.specs.Moments.{BesideObjects, LeavesOnly, MayLeaveNow}
 use Rattle.sky_outside.specs.Told.{WhereTold}
 use Rattle.sky_outside.specs.declared.storage.Storage.{Ghosts}
-use Rattle.sky_outside.proofs.MomentLaws.{HoldsNow-same, LeavesOnly-disk_start, LeavesOnly-disk_then}
+use Rattle.sky_outside.proofs.MomentLaws.{HoldsNow-same, LeavesOnly-disk_start, LeavesOnly-disk_then, only_read}
 use Rattle.sky_outside.proofs.ToldLaws.{WhereTold-at, WhereTold-from}
 use Rattle.sky_script.specs.Frame.{InFrame, Bytes, OutFrame}
-use Rattle.sky_world.specs.Disk.{HoldsPrefix, IsKeptOn, LeavesPrefix, ReadsAsPrefix, WentOn}
+use Rattle.sky_world.specs.Disk.{HoldsPrefix, LeavesPrefix, WentOn}
+use Rattle.sky_sound.specs.Invariant.{Invariant}
 use Rattle.sky_world.specs.Feeding.{Acknowledges, Answers, HoldsWithin, IsStable, LeavesHolding, WentWithin}
 use Rattle.sky_world.specs.Finding.{RecordUnderWay}
-use Rattle.sky_world.specs.Meaning.{State, Session, Kept, Open, Scarce, Step, StepBytes, session_at}
+use Rattle.sky_world.specs.Meaning.{State, Session, Open, Scarce, Step, StepBytes, session_at}
+use Rattle.sky_sound.specs.Kept.{Kept}
 use Rattle.sky_world.specs.World.{ServiceView}
-use Rattle.sky_world.proofs.DiskLaws.{both_same, both_then, left_is_prefix, storable_to, told_both}
+use Rattle.sky_world.proofs.DiskLaws.{both_same, both_then, holds_read, told_both}
 
 -- ---- what is kept is stable
 
 module _ {S : Type 0} (g : Ghosts S) where
-  pub kept_stable : (kept : Kept) (s : S) → IsKeptOn g kept s → IsStable g s kept
-  kept_stable kept s on =
+  pub kept_stable : {epoch : ℕ} {j : JournalView} (kept : Kept) (s : S) → Invariant g epoch kept j s → IsStable g s kept
+  kept_stable {epoch} {j} kept s on =
       WhereTold-from (g.image s) (λ read. (image : List ℕ) → g.may_leave s image → HoldsPrefix kept.mark kept image)
-      (λ read is image left. (
-        kept.mark,
-        omega arith,
-        on.most,
-        WhereTold-at (g.image s) (λ r. g.may_leave s image → ReadsAsPrefix kept kept.mark image) read is (left_is_prefix g kept s on image) left,
-        storable_to kept kept.mark on.storable,
-      ))
+      (λ read is image left. subst (λ (i : List ℕ). HoldsPrefix kept.mark kept i) (sym (only_read g s read is on.durable image left)) (holds_read g epoch kept j s on read is))
 
   pub acknowledges : (old new : ServiceView) (s t : S) (bytes : List ℕ) (reply : Option (List ℕ)) → Answers g old s bytes reply new t → Acknowledges g old s bytes reply t
-  acknowledges old new s t bytes reply answers = record { each = λ state serves. let a = answers.each state serves in (a.0, a.1, kept_stable a.0 t a.2.kept) }
+  acknowledges old new s t bytes reply answers = record { each = λ state serves. let a = answers.each state serves in (a.0, a.1, kept_stable a.0 t a.2.invariant) }
 
 -- ---- the record under way
 
@@ -68,7 +65,7 @@ module _ (s : State) (f : InFrame) where
 
 module _ {S : Type 0} (g : Ghosts S) (s : State) (f : InFrame) (u : RecordUnderWay s f) where
   -- none has been handled yet
-  pub within_begins : (d : S) (kept : Kept) → IsKeptOn g kept d → u.mid.kept ≡ kept → u.next.kept ≡ kept → WentWithin g d d s f (u.said ++ u.own)
+  pub within_begins : {epoch : ℕ} {j : JournalView} (d : S) (kept : Kept) → Invariant g epoch kept j d → u.mid.kept ≡ kept → u.next.kept ≡ kept → WentWithin g d d s f (u.said ++ u.own)
   within_begins d kept on mid next =
       let stable : IsStable g d kept = kept_stable g kept d on in
       let both : (image : List ℕ) → HoldsPrefix kept.mark kept image → HoldsPrefix u.mid.kept.mark u.next.kept image =

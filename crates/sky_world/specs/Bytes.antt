@@ -1,13 +1,9 @@
 -- Streams and payloads of bytes: of numbers below 256.
-use Rattle.std.specs.Prelude.{ℕ, ◌<◌, List}
 use Rattle.std.specs.List.{AllByRecursion}
 use Rattle.sky_script.specs.Frame as frame
 use Rattle.sky_script.specs.Frame.{InFrame}
+use Rattle.sky_xdr.specs.Encoding.{AreBytes}
 use Rattle.sky_world.specs.Meaning.{State, Session, Absent, Open, Closed}
-
--- each is a byte
-abbrev pub AreBytes : List ℕ → Type 0
-AreBytes numbers = AllByRecursion (λ number. number < 256) numbers
 
 -- a session has a stream of bytes, if it is open
 abbrev pub HasBytes : Session → Type 0

@@ -5,14 +5,13 @@ use Rattle.sky_base.specs.declared.moment.Moment.{Moment}
 use Rattle.sky_entry.specs.Entry.{entry_bytes}
 use Rattle.sky_mount.specs.Mount as mount
 use Rattle.sky_mount.specs.Values.{call_of}
-use Rattle.sky_nfs.specs.History.{last_tree}
 use Rattle.sky_nfs.specs.declared.call.Call.{Call}
 use Rattle.sky_nfs.specs.declared.status.NfsStatus.TheVariants.{Jukebox}
 use Rattle.sky_outside.specs.CloudMap.{CloudMap}
 use Rattle.sky_outside.specs.Moments.{BesideObjects, LeavesOnly, MayLeaveNow, SameCloud}
 use Rattle.sky_outside.specs.Told.{BothTold, Given, WhereTold}
 use Rattle.sky_outside.specs.declared.storage.Storage.{Ghosts}
-use Rattle.sky_record.specs.Stream.{Received, TooLong, nothing, IsOpen, Reads}
+use Rattle.sky_record.specs.Stream.{Received, TooLong, nothing, IsOpen, ReadsRecords}
 use Rattle.sky_results.specs.Answers.{answer_bytes}
 use Rattle.sky_rpc.specs.Reply.{Success, reply_record}
 use Rattle.sky_rpc.specs.Values.{reply_of, results_count}
@@ -23,10 +22,11 @@ use Rattle.sky_world.specs.declared.sessions.Session.{Session}
 use Rattle.sky_world.specs.Disk.{HoldsPrefix, LeavesPrefix, WentOn}
 use Rattle.sky_world.specs.Finding.{RecordUnderWay}
 use Rattle.sky_world.specs.Meaning as meaning
-use Rattle.sky_world.specs.Meaning.{State, Kept, Scarce, Answered, called_by, kept_after, lacks_room, service_of, session_at, with_kept, with_session, frame_for, Step, StepRecords}
+use Rattle.sky_world.specs.Meaning.{State, Scarce, Answered, called_by, kept_after, lacks_room, service_of, session_at, with_kept, with_session, frame_for, Step, StepRecords}
+use Rattle.sky_sound.specs.Kept.{Kept}
 use Rattle.sky_world.specs.Message.{procedure_count}
 use Rattle.sky_world.specs.Service.{answer_to, bare_answer, reply_without_memory, takes_some}
-use Rattle.sky_world.specs.World.{ServiceView, SinkGot, ServesFor, StandsAt, StandsFor}
+use Rattle.sky_world.specs.World.{ServiceView, SinkGot, ServesFor, StandsAt, SessionStandsFor}
 
 -- From s to t a record was answered, with none where the session is closed: in each state for which the service stands, it is answered
 -- so, and afterwards the service stands for that state with what is kept then.
@@ -50,10 +50,10 @@ pub record Fails {S : Type 0} (g : Ghosts S) (old : ServiceView) (s : S) (bytes 
 
 -- A call of NFS was answered by this record: by its procedure, or put off, or since there was no memory.
 pub data Called (old : State) (xid procedure : ℕ) (cred : Cred) (call : Call) (reply : List ℕ) (after : Kept) : Type 0 where
-  by_procedure : lacks_room (last_tree old.kept.history) old.kept.journal (called_by cred call old.moment) ≡ false
+  by_procedure : lacks_room old.kept (called_by cred call old.moment) ≡ false
       → reply ≡ reply_record xid (Success (answer_bytes (answer_to (service_of old) cred call)))
       → after ≡ kept_after old.kept (called_by cred call old.moment) → Called old xid procedure cred call reply after
-  without_room : lacks_room (last_tree old.kept.history) old.kept.journal (called_by cred call old.moment) ≡ true
+  without_room : lacks_room old.kept (called_by cred call old.moment) ≡ true
       → reply ≡ reply_record xid (Success (answer_bytes (bare_answer procedure Jukebox))) → after ≡ old.kept → Called old xid procedure cred call reply after
   without_memory : IsTrue (takes_some (service_of old) cred call) → reply ≡ reply_record xid (reply_without_memory procedure) → after ≡ old.kept → Called old xid procedure cred call reply after
 
@@ -102,7 +102,7 @@ FailsMessage g old s _ t = ⊥
 -- of the next one `new` is received
 abbrev pub GoesOn : Received → List ℕ → List (List ℕ) → Received → Type 0
 GoesOn old bytes further new =
-    (stream : List ℕ) (records : List (List ℕ)) → Reads stream records old → Reads (stream ++ bytes) (records ++ further) new
+    (stream : List ℕ) (records : List (List ℕ)) → ReadsRecords stream records old → ReadsRecords (stream ++ bytes) (records ++ further) new
 
 -- What became of bytes that an open session took, by what was received before and after: which frames answer them, and
 -- whether the session stays open.
@@ -128,8 +128,8 @@ pub record UnderWay (old : State) (number : ℕ) (stream done : List ℕ) (outs 
   pub before : List (List ℕ)
   pub part : Received
   pub records : List (List ℕ)
-  pub read : Reads stream before part
-  pub goes_on : Reads (stream ++ done) (before ++ records) received
+  pub read : ReadsRecords stream before part
+  pub goes_on : ReadsRecords (stream ++ done) (before ++ records) received
   pub handled : (all : List ℕ) → StepRecords Scarce number records (with_session old number (meaning.Open all)) outs (with_kept (with_session old number (meaning.Open all)) kept)
 
 -- ---- what a crash leaves on the disk, record by record
@@ -181,7 +181,7 @@ pub record LastUnsaid {S : Type 0} (g : Ghosts S) (s t : S) (old : State) (f : I
 abbrev pub Handled : {S : Type 0} → Ghosts S → ℕ → ServiceView → S → Received → List ℕ → ServiceView → S → Session → SinkGot → Type 0
 Handled g number service s received payload later t next sink =
     (old : State) (stream : List ℕ) → number < length old.sessions → session_at old number ≡ meaning.Open stream → ServesFor g service s old → StandsAt received stream
-    → (session : meaning.Session) × (kept : Kept) × (outs : List OutFrame) × StandsFor next session × ServesFor g later t (with_kept old kept)
+    → (session : meaning.Session) × (kept : Kept) × (outs : List OutFrame) × SessionStandsFor next session × ServesFor g later t (with_kept old kept)
     × Step Scarce old (Bytes number payload) outs (with_session (with_kept old kept) number session)
     × Given sink.before sink.after (out_frames outs) × WentWithin g s t old (Bytes number payload) outs
 

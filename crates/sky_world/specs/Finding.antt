@@ -9,7 +9,8 @@ use Rattle.sky_script.specs.Frame as frame
 use Rattle.sky_script.specs.Frame.{InFrame, OutFrame}
 use Rattle.sky_sound.specs.Cloud.{epoch_after}
 use Rattle.sky_sound.specs.Recovery.{IsSound, recovered}
-use Rattle.sky_world.specs.Meaning.{State, Kept, Scarce, Step}
+use Rattle.sky_world.specs.Meaning.{State, Scarce, Step}
+use Rattle.sky_sound.specs.Kept.{Kept}
 
 -- A crash in an epoch left this image, and the cloud these objects: the site is sound, recovery finds the tree after the first n changes of the
 -- history, at least so many and no more than there are, and the next opening is in a later epoch.
@@ -17,8 +18,8 @@ pub record FindsPrefix (epoch floor : ℕ) (kept : Kept) (image : List ℕ) (obj
   pub n : ℕ
   pub least : floor ≤ n
   pub most : n ≤ history_length kept.history
-  pub sound : IsSound kept.journal.volume kept.journal.size image objects
-  pub found : recovered kept.journal.volume kept.journal.size image objects ≡ Ok (record { length = n; tree = tree_at_length kept.history n })
+  pub sound : IsSound kept.history.tree.volume kept.journal.size image objects
+  pub found : recovered kept.history.tree.volume kept.journal.size image objects ≡ Ok (record { length = n; tree = tree_at_length kept.history n })
   pub later_epoch : epoch < epoch_after objects
 
 -- a crash at any moment from s to t leaves that, where the site tells what it has
@@ -33,9 +34,9 @@ FindsBehind g s t epoch floor kept = WhereBothTold g s (λ read held. (image : L
 abbrev pub FindsNow : {S : Type 0} → Ghosts S → S → ℕ → Kept → Type 0
 FindsNow g s epoch kept = FindsBehind g s s epoch kept.mark kept
 
--- how many changes each crash within a step leaves: those up to the mark before it; where the journal is given up, those that the cloud covers
+-- how many changes each crash within a step leaves: those up to the mark before it; where the journal is given up, those that the cloud has for good
 abbrev pub floor_of : InFrame → State → ℕ
-floor_of frame.RestartWithoutJournal old = old.kept.history.before
+floor_of frame.RestartWithoutJournal old = old.kept.completed
 floor_of _ old = old.kept.mark
 
 -- of which history: that with the changes of the step; a restart makes none, and the history before it is the longer one

@@ -5,7 +5,7 @@ use Rattle.sky_nfs.specs.History.{History, history_length}
 use Rattle.sky_nfs.specs.declared.call.Change.{Change}
 use Rattle.sky_rpc.specs.Reply.{reply_record}
 use Rattle.sky_script.specs.Frame.{InFrame, Restart, RestartWithoutJournal, OutFrame, Reply}
-use Rattle.sky_world.specs.Meaning.{Kept}
+use Rattle.sky_sound.specs.Kept.{Kept}
 use Rattle.sky_world.specs.Service.{reply_without_memory}
 
 -- a frame tells a session that there was no memory for a call
@@ -27,7 +27,10 @@ IsForeseen told Restart = told ≡ true
 IsForeseen told RestartWithoutJournal = told ≡ true
 IsForeseen told _ = Unit {0}
 
--- the mark lies within the history
+-- The numbers are in order: what is completed is stored, what is marked is stored, and what is stored lies within the history.
 pub record IsMarked (kept : Kept) : Type 0 where
+  pub begins : kept.history.before ≤ kept.completed
+  pub completed : kept.completed ≤ kept.stored
   pub least : kept.history.before ≤ kept.mark
-  pub most : kept.mark ≤ history_length kept.history
+  pub marked : kept.mark ≤ kept.stored
+  pub most : kept.stored ≤ history_length kept.history

@@ -2,10 +2,8 @@
 use Rattle.std.specs.Prelude.{◌≡◌, ℕ, ◌+◌, ◌-◌, Bool, true, false, cond, ◌&&◌, ◌||◌, nat_lt, is_none, List, [], ◌∷◌, ◌++◌, length, Option, Some, None, replicate, slice_index_or, slice_set, take, MatchBool}
 use Rattle.sky_base.specs.declared.cred.Cred.{Cred}
 use Rattle.sky_base.specs.declared.moment.Moment.{Moment}
-use Rattle.sky_calls.specs.Durable.{journal_after}
 use Rattle.sky_calls.specs.Stable.{is_stable_call}
 use Rattle.sky_entry.specs.Entry.{entry_bytes}
-use Rattle.sky_journal.specs.Journal.{JournalView, room_of, wanted_of, after_commit, wiped}
 use Rattle.sky_nfs.specs.Procedure.{refusal_of}
 use Rattle.sky_nfs.specs.declared.call.Call.{Call}
 use Rattle.sky_nfs.specs.declared.call.Call.TheVariants.{Commit}
@@ -17,7 +15,7 @@ use Rattle.sky_record.specs.Stream.{Progress, TooLong, Received, Completes}
 use Rattle.sky_script.specs.Frame as frame
 use Rattle.sky_script.specs.Frame.{InFrame, OutFrame, Reply, Opened, Counted, session_count}
 use Rattle.sky_script.specs.declared.frame.Stats.{Stats}
-use Rattle.sky_sound.specs.Settled.{settled}
+use Rattle.sky_sound.specs.Kept.{JournalState, Kept, emptied, journal_state, left_open, room_left, room_wanted, stored_to, with_waiting}
 use Rattle.sky_world.specs.Message as message
 use Rattle.sky_world.specs.Message.{Message, meaning_of}
 use Rattle.sky_world.specs.Service.{Service, reply_to, reply_put_off, RunsOut}
@@ -27,15 +25,6 @@ pub data Session : Type 0 where
   Absent : Session
   Open : (stream : List ℕ) → Session
   Closed : Session
-
--- what calls change: the history of the files, how many of its changes are stable, and the journal that keeps them
-pub record Kept : Type 0 where
-  -- the changes so far, and the tree that they lead to
-  pub history : History
-  -- the mark: how many of the changes each crash leaves
-  pub mark : ℕ
-  -- the journal: how far its areas are filled, and the entries that are not on its disk yet
-  pub journal : JournalView
 
 -- what the proxy is in, between two frames
 pub record State : Type 0 where
@@ -48,18 +37,32 @@ pub record State : Type 0 where
   -- whether the site tells what it has, so that it is known beforehand what an opening finds
   pub told : Bool
 
--- what is kept at an opening that found this: its history, all of which is on the disk
+-- What is kept at an opening that found this: its history, all of which is stored, and of which the cloud has what came before it.
 abbrev pub kept_of : Found → Kept
-kept_of found = record { history = found.history; mark = history_length found.history; journal = found.journal }
+kept_of found = record {
+  history = found.history;
+  mark = history_length found.history;
+  stored = history_length found.history;
+  completed = found.history.before;
+  journal = journal_state found.journal;
+}
 
--- at an opening that found this no session has begun
+-- the state in which this is kept in an epoch, and no session has begun
+abbrev pub opened_state : Bool → (epoch : ℕ) → Moment → Kept → State
+opened_state told epoch moment kept = record { epoch = epoch; kept = kept; moment = moment; sessions = replicate session_count Absent; told = told }
+
+-- the state at an opening that found this
 abbrev pub start : Bool → Found → State
-start told found = record { epoch = found.epoch; kept = kept_of found; moment = epoch_start; sessions = replicate session_count Absent; told = told }
+start told found = opened_state told found.epoch epoch_start (kept_of found)
 
--- the frame of the opening: its epoch, how many changes it found, and whether there are some that the cloud does not cover
+-- the frame of an opening that led to a state: its epoch, how many changes it found, and whether there are some that the cloud does not have
+abbrev pub opening_of : State → OutFrame
+opening_of state =
+    Opened state.epoch (history_length state.kept.history) (nat_lt state.kept.completed (history_length state.kept.history))
+
+-- the same of an opening that found this
 abbrev pub opening : Found → OutFrame
-opening found =
-    Opened found.epoch (history_length found.history) (nat_lt found.history.before (history_length found.history))
+opening found = opening_of (start true found)
 
 -- what answers the calls: the epoch, the history's last tree, and the moment
 abbrev pub service_of : State → Service
@@ -111,24 +114,29 @@ makes_stable tree cred _ = false
 abbrev pub leaves_stable : Tree → Change → Bool
 leaves_stable tree change = is_done tree change && is_stable_call change.call || makes_stable tree change.cred change.call
 
--- the mark after a call: the length of the history, or as before
-abbrev pub mark_after : Kept → Change → ℕ
-mark_after kept change =
-    cond (leaves_stable (last_tree kept.history) change) (history_length (after_call kept.history change.cred change.call change.moment)) kept.mark
+-- how many changes there are after a call
+abbrev pub length_after : Kept → Change → ℕ
+length_after kept change = history_length (after_call kept.history change.cred change.call change.moment)
 
--- the journal after a call: with the entry of a change that is answered OK, committed where that is to be stable; a COMMIT brings all
--- pending entries to the disk
-abbrev pub journal_after_call : Tree → JournalView → Change → JournalView
-journal_after_call tree journal change =
-    cond (is_done tree change) (journal_after (is_stable_call change.call) journal (entry_bytes change)) (cond (makes_stable tree change.cred change.call) (after_commit journal) journal)
+-- the journal after a call: a change that is answered OK waits there, and all that waits is stored where the call leaves all changes stable
+abbrev pub journal_state_after : Kept → Change → JournalState
+journal_state_after kept change =
+    let tree = last_tree kept.history in
+    let waits = cond (is_done tree change) (with_waiting (length (entry_bytes change)) kept.journal) kept.journal in
+    cond (leaves_stable tree change) (stored_to (length_after kept change) waits) waits
 
--- what is kept after a call
+-- What is kept after a call. The mark, and how many changes are stored, are the length of the history where the call leaves all of them stable, and
+-- else as before.
 abbrev pub kept_after : Kept → Change → Kept
-kept_after kept change = record {
-  history = after_call kept.history change.cred change.call change.moment;
-  mark = mark_after kept change;
-  journal = journal_after_call (last_tree kept.history) kept.journal change;
-}
+kept_after kept change =
+    let stable = leaves_stable (last_tree kept.history) change in
+    record {
+      history = after_call kept.history change.cred change.call change.moment;
+      mark = cond stable (length_after kept change) kept.mark;
+      stored = cond stable (length_after kept change) kept.stored;
+      completed = kept.completed;
+      journal = journal_state_after kept change;
+    }
 
 -- a call as a change: by this caller, at this moment
 abbrev pub called_by : Cred → Call → Moment → Change
@@ -140,21 +148,21 @@ after_message state (message.Nfs xid cred call) = kept_after state.kept (called_
 after_message state _ = state.kept
 
 -- whether a change that would be answered OK has no room in the journal: what the batch with it would take is more than is left
-abbrev pub lacks_room : Tree → JournalView → Change → Bool
-lacks_room tree journal change = is_done tree change && nat_lt (room_of journal) (wanted_of journal (length (entry_bytes change)))
+abbrev pub lacks_room : Kept → Change → Bool
+lacks_room kept change = is_done (last_tree kept.history) change && nat_lt (room_left kept) (room_wanted kept (length (entry_bytes change)))
 
 -- whether a record that means this is put off, to be tried again
 abbrev pub puts_off : State → Message → Bool
-puts_off state (message.Nfs xid cred call) = lacks_room (last_tree state.kept.history) state.kept.journal (called_by cred call state.moment)
+puts_off state (message.Nfs xid cred call) = lacks_room state.kept (called_by cred call state.moment)
 puts_off state _ = false
 
 -- whether there was memory for each call, or may have been none for some
-pub data Memory : Type 0 where
-  Ample : Memory
-  Scarce : Memory
+pub data Supply : Type 0 where
+  Ample : Supply
+  Scarce : Supply
 
 -- The answer to a record, none where the session is closed, and what is kept after it.
-pub data Answered (memory : Memory) (old : State) (bytes : List ℕ) (reply : Option (List ℕ)) (after : Kept) : Type 0 where
+pub data Answered (memory : Supply) (old : State) (bytes : List ℕ) (reply : Option (List ℕ)) (after : Kept) : Type 0 where
   -- by what the record means: a call of NFS is answered by its procedure on the last tree
   by_meaning : puts_off old (meaning_of bytes) ≡ false → reply ≡ reply_to (service_of old) (meaning_of bytes) → after ≡ after_message old (meaning_of bytes)
       → Answered memory old bytes reply after
@@ -206,7 +214,7 @@ after_reply number None state = with_session state number Closed
 after_reply number (Some reply) state = state
 
 -- a record of a session
-pub record StepRecord (memory : Memory) (number : ℕ) (bytes : List ℕ) (old : State) (outs : List OutFrame) (new : State) : Type 0 where
+pub record StepRecord (memory : Supply) (number : ℕ) (bytes : List ℕ) (old : State) (outs : List OutFrame) (new : State) : Type 0 where
   pub reply : Option (List ℕ)
   pub after : Kept
   pub answered : Answered memory old bytes reply after
@@ -214,7 +222,7 @@ pub record StepRecord (memory : Memory) (number : ℕ) (bytes : List ℕ) (old :
   pub leads : new ≡ after_reply number reply (with_kept old after)
 
 -- the records of a session in their order, as long as it is open
-abbrev pub StepRecords : Memory → ℕ → List (List ℕ) → State → List OutFrame → State → Type 0
+abbrev pub StepRecords : Supply → ℕ → List (List ℕ) → State → List OutFrame → State → Type 0
 StepRecords memory number [] old outs new = Passes old outs new
 StepRecords memory number (bytes ∷ records) old outs new =
     WhereOpen number (Then (StepRecord memory number bytes) (StepRecords memory number records)) old outs new
@@ -226,7 +234,7 @@ StepProgress number _ old outs new = Passes old outs new
 
 -- the next bytes of a session. One that is open has them behind its stream, and the records that they complete are
 -- handled; else they are passed over
-abbrev pub StepBytes : Memory → Session → ℕ → List ℕ → State → List OutFrame → State → Type 0
+abbrev pub StepBytes : Supply → Session → ℕ → List ℕ → State → List OutFrame → State → Type 0
 StepBytes memory (Open stream) number payload old outs new =
     (records : List (List ℕ)) × (end : Received) × Completes stream payload records end
     × Then (StepRecords memory number records) (StepProgress number end.progress) (with_session old number (Open (stream ++ payload))) outs new
@@ -239,43 +247,44 @@ StepBytes memory Closed number payload old outs new = Passes old outs new
 abbrev pub cut_to : ℕ → History → History
 cut_to n history = record history { changes = take (n - history.before) history.changes }
 
--- what an opening finds where the changes up to a number are on the disk, and this journal is read from it: they are the history, in the next
--- epoch, and the journal is as an opening leaves it, where the changes before the history are in the cloud
-abbrev pub found_to : ℕ → JournalView → State → Found
-found_to number read old = record {
-  epoch = old.epoch + 1;
-  history = cut_to number old.kept.history;
-  journal = settled old.kept.history.before read;
+-- What is kept behind a restart that found the changes up to a number, with the journal as it was: the history is cut there, all of it is stored,
+-- and the journal is as an opening leaves it.
+abbrev pub kept_to : ℕ → JournalState → Kept → Kept
+kept_to number journal kept = record {
+  history = cut_to number kept.history;
+  mark = number;
+  stored = number;
+  completed = kept.completed;
+  journal = left_open kept.completed journal;
 }
 
--- it finds the changes up to the mark, and, without the journal, those that the cloud covers
-abbrev pub kept_found : State → Found
-kept_found old = found_to old.kept.mark old.kept.journal old
+-- with the journal: the changes that are stored
+abbrev pub reopened : Kept → Kept
+reopened kept = kept_to kept.stored kept.journal kept
 
-abbrev pub covered_found : State → Found
-covered_found old = found_to old.kept.history.before (wiped old.kept.journal) old
-
--- From old, the proxy was opened again, and found this: it says so, and no session has begun. The moment stays.
-abbrev pub Reopens : State → Found → List OutFrame → State → Type 0
-Reopens old found outs new = (outs ≡ opening found ∷ []) × (new ≡ record (start old.told found) { moment = old.moment })
+-- without it: those that the cloud has for good
+abbrev pub given_up : Kept → Kept
+given_up kept = kept_to kept.completed (emptied kept.journal) kept
 
 -- what a restart may find of what is kept, on a site that does not tell what it has: some legal history of the volume, and a journal of it, as
 -- large as before, in which no change waits, and for which no call of the disk failed
 pub record MayBeFound (kept : Kept) (found : Found) : Type 0 where
   pub legal : IsLegalHistory found.history
-  pub volume : found.history.tree.volume ≡ kept.journal.volume
-  pub journal_volume : found.journal.volume ≡ kept.journal.volume
+  pub volume : found.history.tree.volume ≡ kept.history.tree.volume
+  pub journal_volume : found.journal.volume ≡ kept.history.tree.volume
   pub journal_size : found.journal.size ≡ kept.journal.size
   pub pending : found.journal.pending ≡ []
   pub up : found.journal.down ≡ false
 
--- What a restart finds: what is known to be there, where the site tells what it has.
-pub data Restarts (old : State) (known : Found) (outs : List OutFrame) (new : State) : Type 0 where
-  as_known : old.told ≡ true → Reopens old known outs new → Restarts old known outs new
-  untold : (found : Found) → old.told ≡ false → MayBeFound old.kept found → Reopens old found outs new → Restarts old known outs new
+-- What a restart leads to: where the site tells what it has, what is known to be kept there, in the next epoch; and else what was found. It says so, and
+-- no session has begun. The moment stays.
+pub data Restarts (old : State) (known : Kept) (outs : List OutFrame) (new : State) : Type 0 where
+  as_known : old.told ≡ true → new ≡ opened_state old.told (old.epoch + 1) old.moment known → outs ≡ opening_of new ∷ [] → Restarts old known outs new
+  untold : (found : Found) → old.told ≡ false → MayBeFound old.kept found → new ≡ opened_state old.told found.epoch old.moment (kept_of found) → outs ≡ opening_of new ∷ []
+      → Restarts old known outs new
 
 -- one frame: from old, it is answered by these frames, and leads to new
-abbrev pub Step : Memory → State → InFrame → List OutFrame → State → Type 0
+abbrev pub Step : Supply → State → InFrame → List OutFrame → State → Type 0
 -- a session begins anew, and its stream is empty
 Step memory old (frame.Begin number) outs new = (outs ≡ []) × (new ≡ with_session old number (Open []))
 Step memory old (frame.Bytes number payload) outs new = StepBytes memory (session_at old number) number payload old outs new
@@ -284,14 +293,14 @@ Step memory old (frame.SetMoment at) outs new = (outs ≡ []) × (new ≡ record
 -- what the proxy has, as numbers
 Step memory old frame.Stat outs new = (outs ≡ Counted (stats_of old) ∷ []) × (new ≡ old)
 -- the proxy is stopped, and opened again: it has lost what was not on its disk
-Step memory old frame.Restart outs new = Restarts old (kept_found old) outs new
+Step memory old frame.Restart outs new = Restarts old (reopened old.kept) outs new
 -- the same, where all that is not in the cloud is given up
-Step memory old frame.RestartWithoutJournal outs new = Restarts old (covered_found old) outs new
+Step memory old frame.RestartWithoutJournal outs new = Restarts old (given_up old.kept) outs new
 -- the end is not answered by a step
 Step memory old frame.End outs new = ⊥
 
 -- frames, one after the other
-abbrev pub Steps : Memory → State → List InFrame → List OutFrame → State → Type 0
+abbrev pub Steps : Supply → State → List InFrame → List OutFrame → State → Type 0
 Steps memory old [] outs new = Passes old outs new
 Steps memory old (f ∷ fs) outs new =
     (mid : State) × (first rest : List OutFrame) × Step memory old f first mid × Steps memory mid fs rest new × (outs ≡ first ++ rest)

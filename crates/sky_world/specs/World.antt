@@ -1,27 +1,26 @@
 -- What contracts see of the world, and which state it stands for.
-use Rattle.std.specs.Prelude.{◌≡◌, ◌⊎◌, ℕ, ◌+◌, ◌<◌, Bool, false, ◌&&◌, List, [], ◌∷◌, ◌++◌, length, slice_index_or, take, Option, IsSome, is_some}
+use Rattle.std.specs.Prelude.{◌≡◌, ◌⊎◌, ℕ, ◌<◌, Bool, false, ◌&&◌, List, [], ◌∷◌, ◌++◌, length, slice_index_or, take, Option, IsSome, is_some}
 use Rattle.sky_base.specs.declared.moment.Moment.{Moment}
 use Rattle.sky_base.specs.declared.status.Status.{Status}
 use Rattle.sky_base.specs.declared.status.Status.TheVariants.{SinkFault, JournalFault, Memory, CloudFault, Foreign, Missing, Damaged, Worn}
-use Rattle.sky_journal.specs.Journal.{JournalView, SameButSpare, last_of, number_behind}
-use Rattle.sky_nfs.specs.History.{IsLegalHistory, last_tree}
+use Rattle.sky_journal.specs.Journal.{JournalView, last_of, number_behind}
+use Rattle.sky_nfs.specs.History.{last_tree}
 use Rattle.sky_nfs.specs.Tree.{Tree}
 use Rattle.sky_outside.specs.CloudMap.{CloudMap}
 use Rattle.sky_outside.specs.declared.storage.Storage.{Ghosts}
-use Rattle.sky_record.specs.Stream.{Received, IsOpen, Reads}
-use Rattle.sky_outside.specs.Told.{WhereTold, Given}
+use Rattle.sky_record.specs.Stream.{Received, IsOpen, ReadsRecords}
+use Rattle.sky_outside.specs.Told.{Given}
 use Rattle.sky_script.specs.Frame as frame
 use Rattle.sky_script.specs.Frame.{InFrame, Begin, Bytes, OutFrame, out_frames, session_count}
 use Rattle.sky_script.specs.declared.frame.Stats.{Stats}
 use Rattle.sky_settings.specs.declared.settings.Fields.{Fields}
 use Rattle.sky_sound.specs.Boot.{Claims, MayClaim}
-use Rattle.sky_sound.specs.Cloud.{HasNoCheckpoint, cloud_tree, covers_of, epoch_after}
+use Rattle.sky_sound.specs.Invariant.{Invariant}
 use Rattle.sky_world.specs.declared.sessions.Session.{Session}
 use Rattle.sky_world.specs.declared.sessions.Session.TheVariants.{Absent, Open, Closed}
-use Rattle.sky_world.specs.Bytes.{AreBytes}
+use Rattle.sky_xdr.specs.Encoding.{AreBytes}
 use Rattle.sky_world.specs.Meaning as meaning
 use Rattle.sky_world.specs.Meaning.{State, session_at, Scarce, Step}
-use Rattle.sky_world.specs.Disk.{IsKeptOn}
 use Rattle.sky_world.specs.Finding.{FindsBehind, FindsNow, LeavesFinding, LeavesWithin, RecordUnderWay, floor_of}
 
 -- what answers the calls, in the program: the number of this opening, the tree, the journal, and the moment
@@ -60,56 +59,40 @@ stats_shown world = record {
   cleaner_bytes = 0;
 }
 
--- On a disk the service stands for what answers the calls of a state, and for what is kept.
+-- On a site the service stands for what answers the calls of a state, and what holds between any two steps holds of what is kept, by its journal.
 pub record ServesFor {S : Type 0} (g : Ghosts S) (service : ServiceView) (s : S) (state : State) : Type 0 where
   pub epoch : service.epoch ≡ state.epoch
   pub tree : service.tree ≡ last_tree state.kept.history
   pub moment : service.moment ≡ state.moment
-  pub journal : SameButSpare state.kept.journal service.journal
-  pub kept : IsKeptOn g state.kept s
+  pub invariant : Invariant g state.epoch state.kept service.journal s
 
 -- What was received is the end of this stream of bytes, and it can go on.
 pub record StandsAt (received : Received) (stream : List ℕ) : Type 0 where
   pub bytes : AreBytes stream
   pub goes_on : IsOpen received.progress
   pub records : List (List ℕ)
-  pub read : Reads stream records received
+  pub read : ReadsRecords stream records received
 
 -- a session of the world stands for one of the state
-abbrev pub StandsFor : Session → meaning.Session → Type 0
-StandsFor Absent meaning.Absent = Unit {0}
-StandsFor (Open received) (meaning.Open stream) = StandsAt received stream
-StandsFor (Closed received) meaning.Closed = Unit {0}
-StandsFor _ _ = ⊥
+abbrev pub SessionStandsFor : Session → meaning.Session → Type 0
+SessionStandsFor Absent meaning.Absent = Unit {0}
+SessionStandsFor (Open received) (meaning.Open stream) = StandsAt received stream
+SessionStandsFor (Closed received) meaning.Closed = Unit {0}
+SessionStandsFor _ _ = ⊥
 
 -- whether a site tells what its disk and its cloud have
 abbrev pub tells : {S : Type 0} → Ghosts S → S → Bool
 tells g s = is_some (g.image s) && is_some (g.objects s)
 
--- The cloud beside the journal of a state: it has no checkpoint of the proxy, it covers what came before the history, and the next epoch is
--- the one behind that of the state.
-pub record IsBeside (state : State) (objects : CloudMap) : Type 0 where
-  pub no_checkpoint : HasNoCheckpoint objects
-  pub covers : state.kept.history.before ≡ covers_of objects
-  pub tree : state.kept.history.tree ≡ cloud_tree state.kept.journal.volume objects
-  pub epoch : epoch_after objects ≡ state.epoch + 1
-
--- What a restart needs of a state and a site to find the history again.
-pub record IsRecoverable {S : Type 0} (g : Ghosts S) (state : State) (s : S) : Type 0 where
-  pub told : state.told ≡ tells g s
-  pub legal : IsLegalHistory state.kept.history
-  pub volume : state.kept.history.tree.volume ≡ state.kept.journal.volume
-  pub cloud : WhereTold (g.objects s) (IsBeside state)
-
 -- On a site the world stands for the state.
 pub record Stands {S : Type 0} (g : Ghosts S) (world : WorldView) (s : S) (state : State) : Type 0 where
-  pub volume : world.settings.volume ≡ state.kept.journal.volume
+  pub volume : world.settings.volume ≡ state.kept.history.tree.volume
   pub area : world.settings.journal_area ≡ state.kept.journal.size
-  pub recoverable : IsRecoverable g state s
+  pub told : state.told ≡ tells g s
   pub service : ServesFor g world.service s state
   pub count : length world.sessions ≡ session_count
   pub state_count : length state.sessions ≡ session_count
-  pub sessions : (number : ℕ) → StandsFor (slice_index_or world.sessions number Absent) (session_at state number)
+  pub sessions : (number : ℕ) → SessionStandsFor (slice_index_or world.sessions number Absent) (session_at state number)
 
 -- what a sink had been given before, and what after
 pub record SinkGot : Type 0 where

@@ -7,7 +7,7 @@ ghost use Rattle.sky_nfs.specs.Calls.{is_change};
 ghost use Rattle.sky_outside.specs.Count.{Counts};
 ghost use Rattle.sky_outside.specs.Moments.{BesideObjects, LeavesOnly, NothingPending, SameCloud};
 ghost use Rattle.sky_outside.specs.Told.{BothTold, WhereTold};
-ghost use Rattle.sky_journal.specs.Journal.{Reads, StandsFor, last_of, number_behind, wiped, without_newer};
+ghost use Rattle.sky_journal.specs.Journal.{ReadsEntries, StandsFor, last_of, number_behind, wiped, without_newer};
 ghost use Rattle.sky_nfs.specs.Tree.{epoch_start};
 ghost use Rattle.sky_world.specs.Carried.{Becomes, IsServing, has_committed};
 
@@ -183,7 +183,7 @@ impl Service {
         requires serving { IsServing D.Storage self.old disk.old }
         ensures leaves { WhereTold (D.image disk.old) (λ image. (older newer : List (List ℕ)) → StandsFor self.old.journal image older newer
             → LeavesOnly D.Storage disk.old disk.new (BesideObjects D.Storage disk.old
-            (λ left. Reads self.old.journal older newer left ⊎ Reads (without_newer self.old.journal) [] older left ⊎ Reads (wiped self.old.journal) [] [] left))) }
+            (λ left. ReadsEntries self.old.journal older newer left ⊎ ReadsEntries (without_newer self.old.journal) [] older left ⊎ ReadsEntries (wiped self.old.journal) [] [] left))) }
         ensures holds { OnOk result (BothTold (λ old new. (older newer : List (List ℕ)) → StandsFor self.old.journal old older newer
             → StandsFor (wiped self.old.journal) new [] []) (D.image disk.old) (D.image disk.new)) }
         ensures durable { OnOk result (NothingPending D.Storage disk.new) }

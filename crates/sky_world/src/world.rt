@@ -2,7 +2,7 @@
 
 ghost use Rattle.std.specs.Prelude.{◌≡◌, ◌<◌, ◌≤◌, ◌^◌, ◌⊎◌, ℕ, Bool, true, false, List, [], Option, length, take, IfOk, IfErr, OnOk, OnErr, IsErr, IsErrOf, is_err, is_some, slice_index_or, slice_set, replicate};
 ghost use Rattle.sky_nfs.specs.Tree.{epoch_start};
-ghost use Rattle.sky_outside.specs.Count.{Counts};
+ghost use Rattle.sky_outside.specs.Count.{Counts, Rose};
 ghost use Rattle.sky_outside.specs.Moments.{NothingPending};
 ghost use Rattle.sky_outside.specs.Told.{BothTold, Given, GivenPart, WhereTold};
 ghost use Rattle.sky_record.specs.Stream.{Received, IsOpen, nothing};
@@ -284,7 +284,10 @@ impl World {
         ensures statuses { IfErr result (λ status. IsOfOpening status ⊎ (status ≡ Status.SinkFault)) }
         ensures size { S.bytes_of site.new ≡ S.bytes_of site.old }
         ensures disk_cause { Counts (S.disk_faults site.old) (S.disk_faults site.new) (IsErrOf result Status.JournalFault) }
-        ensures cloud_cause { Counts (S.cloud_faults site.old) (S.cloud_faults site.new) (IsErrOf result Status.CloudFault) }
+        // The cloud's count of faults never falls, and rose where the cloud is blamed; today it stays elsewhere.
+        ensures cloud_grows { S.cloud_faults site.old ≤ S.cloud_faults site.new }
+        ensures cloud_cause { IsErrOf result Status.CloudFault → Rose (S.cloud_faults site.old) (S.cloud_faults site.new) }
+        ensures cloud_quiet { (IsErrOf result Status.CloudFault → ⊥) → S.cloud_faults site.new ≡ S.cloud_faults site.old }
         ensures cause { Counts (K.faults sink.old) (K.faults sink.new) (IsErrOf result Status.SinkFault) }
     {
         let (files, opened) = open_site(alloc, site, &settings)?;
@@ -613,7 +616,10 @@ impl World {
         ensures ended { self.new.ended ≡ is_err result }
         ensures size { S.bytes_of site.new ≡ S.bytes_of site.old }
         ensures disk_cause { Counts (S.disk_faults site.old) (S.disk_faults site.new) (IsErrOf result Status.JournalFault) }
-        ensures cloud_cause { Counts (S.cloud_faults site.old) (S.cloud_faults site.new) (IsErrOf result Status.CloudFault) }
+        // The cloud's count of faults never falls, and rose where the cloud is blamed; today it stays elsewhere.
+        ensures cloud_grows { S.cloud_faults site.old ≤ S.cloud_faults site.new }
+        ensures cloud_cause { IsErrOf result Status.CloudFault → Rose (S.cloud_faults site.old) (S.cloud_faults site.new) }
+        ensures cloud_quiet { (IsErrOf result Status.CloudFault → ⊥) → S.cloud_faults site.new ≡ S.cloud_faults site.old }
         ensures cause { Counts (K.faults sink.old) (K.faults sink.new) (IsErrOf result Status.SinkFault) }
     {
         let outcome = self.do_frame(alloc, frame, site, sink);

@@ -10,4 +10,4 @@ returns-clause-complete c =
     ⊎_elim inl
     (λ free. ⊎_elim (λ memory. inr (inl memory)) (λ worn. inr (inr (worn, worn_out _ _ _ _ _ _ _ _ _ refl refl c.run.result run.ran worn supply course status rest reading))) free)
     (only_memory c.run.result c.args.source.now (run.exact replayed) (λ e. never_rose (run.source_cause.cause e)) (λ e. never_rose (run.sink_cause.cause e))
-    (λ e. never_rose (run.journal_cause.cause e)) (λ e. never_rose (run.cloud_cause.cause e)) (λ damage. run.sound damage sound) supply course status rest reading)
+    (λ e. never_rose (run.journal_cause.cause e)) (λ e. never_rose (run.cloud_cause e)) (λ damage. run.sound damage sound) supply course status rest reading)

@@ -5,6 +5,7 @@ use Rattle.sky_calls.specs.Durable.{DurableView}
 use Rattle.sky_journal.specs.Journal.{JournalView, number_behind}
 use Rattle.sky_outside.specs.Told.{WhereTold}
 use Rattle.sky_sound.specs.Entries.{journal_of}
+use Rattle.sky_recover.specs.Faults.{of_claim, of_replay}
 use Rattle.sky_recover.specs.Opening.{IsOpened, LeavesFound, WhereBothTold}
 use Rattle.sky_recover.specs.Refusals.{IsRefusedBy}
 use Rattle.sky_recover.specs.Steps.{KeepsEntries}
@@ -12,7 +13,7 @@ use Rattle.sky_recover.specs.declared.opened.Opened.{Opened}
 use Rattle.sky_recover.proofs.Ends.{at_settings, fails_there, foreign_there, unread_listed, unread_put, unread_read}
 use Rattle.sky_recover.proofs.Moments.{found_kept, found_put}
 use Rattle.sky_recover.proofs.Outcome.{opened}
-use Rattle.sky_recover.proofs.Refused.{refused_read, refused_redone, sound_ends}
+use Rattle.sky_recover.proofs.Refused.{refused_claim, refused_listed, refused_replay, sound_ends}
 use Rattle.sky_recover.proofs.Untouched.{listed as untouched_listed, read as untouched_read, redone as untouched_redone}
 use Rattle.sky_recover.proofs.opening.recover.Goals as goal
 
@@ -27,9 +28,9 @@ pub returns-in_err-journal-clause-refused : goal.returns-in_err-journal-clause-r
 returns-in_err-journal-clause-refused g c =
     let p = err_from_is_err_and c.from_residual-in_err-journal.result c.from_residual-in_err-journal.ensures.1 in
     rw (p.1, p.2)
-    (at_settings (λ v a. WhereBothTold g.S.Storage c.args.site.now (IsRefusedBy v a c.in_err-journal.field-0.0)) c.volume-volume.result c.args.settings.now.volume c.journal_area-area.result
+    (at_settings (λ v a. WhereBothTold g.S.Storage c.args.site.now (IsRefusedBy v a (of_claim c.in_err-journal.field-0.0))) c.volume-volume.result c.args.settings.now.volume c.journal_area-area.result
     c.args.settings.now.journal_area c.volume-volume.ensures.same c.journal_area-area.ensures.same
-    (refused_read g.S.Storage c.volume-volume.result c.journal_area-area.result c.args.site.now c.in_ok-epoch.ensures.judged JournalView c.in_err-journal.field-0.0 c.in_err-journal.ensures.faults
+    (refused_claim g.S.Storage c.volume-volume.result c.journal_area-area.result c.args.site.now c.in_ok-epoch.ensures.judged JournalView c.in_err-journal.field-0.0
     (λ at is.
     foreign_there g.S.Storage c.volume-volume.result c.journal_area-area.result c.args.site.now c.find_epoch.new.cloud c.find_epoch.ensures.looks at (c.in_err-journal.ensures.foreign at is))))
 
@@ -39,9 +40,9 @@ returns-in_err-journal-clause-sound g c =
     rw p.1
     (sound_ends g.S.Storage c.args.settings.now.volume c.args.settings.now.journal_area c.args.site.now (DurableView × Opened) p.0
     (rw p.2
-    (at_settings (λ v a. WhereBothTold g.S.Storage c.args.site.now (IsRefusedBy v a c.in_err-journal.field-0.0)) c.volume-volume.result c.args.settings.now.volume c.journal_area-area.result
+    (at_settings (λ v a. WhereBothTold g.S.Storage c.args.site.now (IsRefusedBy v a (of_claim c.in_err-journal.field-0.0))) c.volume-volume.result c.args.settings.now.volume c.journal_area-area.result
     c.args.settings.now.journal_area c.volume-volume.ensures.same c.journal_area-area.ensures.same
-    (refused_read g.S.Storage c.volume-volume.result c.journal_area-area.result c.args.site.now c.in_ok-epoch.ensures.judged JournalView c.in_err-journal.field-0.0 c.in_err-journal.ensures.faults
+    (refused_claim g.S.Storage c.volume-volume.result c.journal_area-area.result c.args.site.now c.in_ok-epoch.ensures.judged JournalView c.in_err-journal.field-0.0
     (λ at is.
     foreign_there g.S.Storage c.volume-volume.result c.journal_area-area.result c.args.site.now c.find_epoch.new.cloud c.find_epoch.ensures.looks at (c.in_err-journal.ensures.foreign at is))))))
 
@@ -57,10 +58,16 @@ pub returns-in_err-journal-clause-untouched : goal.returns-in_err-journal-clause
 returns-in_err-journal-clause-untouched g c =
     let p = err_from_is_err_and c.from_residual-in_err-journal.result c.from_residual-in_err-journal.ensures.1 in
     rw (p.1, p.2)
-    (untouched_read g.S.Storage c.args.site.now c.find_epoch.new.cloud c.read_and_claim.new.site c.find_epoch.ensures.looks c.read_and_claim.ensures.image JournalView c.in_err-journal.field-0.0
-    c.in_err-journal.ensures.faults)
+    (untouched_read g.S.Storage c.args.site.now c.find_epoch.new.cloud c.read_and_claim.new.site c.find_epoch.ensures.looks c.read_and_claim.ensures.image c.in_err-journal.field-0.0)
 
 -- ---- the cloud was not listed
+
+pub returns-in_err-epoch-clause-sound : goal.returns-in_err-epoch-clause-sound
+returns-in_err-epoch-clause-sound g c =
+    let p = err_from_is_err_and c.from_residual.result c.from_residual.ensures.1 in
+    rw p.1
+    (sound_ends g.S.Storage c.args.settings.now.volume c.args.settings.now.journal_area c.args.site.now (DurableView × Opened) p.0
+    (rw p.2 (refused_listed g.S.Storage c.args.settings.now.volume c.args.settings.now.journal_area c.args.site.now ℕ c.in_err-epoch.field-0.0 c.in_err-epoch.ensures.judged)))
 
 pub returns-in_err-epoch-clause-untouched : goal.returns-in_err-epoch-clause-untouched
 returns-in_err-epoch-clause-untouched g c =
@@ -86,9 +93,9 @@ pub returns-in_err-durable-clause-refused : goal.returns-in_err-durable-clause-r
 returns-in_err-durable-clause-refused g c =
     let p = err_from_is_err_and c.from_residual-in_err-durable.result c.from_residual-in_err-durable.ensures.1 in
     rw (p.1, p.2)
-    (at_settings (λ v a. WhereBothTold g.S.Storage c.args.site.now (IsRefusedBy v a c.in_err-durable.field-0.0)) c.volume-volume.result c.args.settings.now.volume c.journal_area-area.result
+    (at_settings (λ v a. WhereBothTold g.S.Storage c.args.site.now (IsRefusedBy v a (of_replay c.in_err-durable.field-0.0))) c.volume-volume.result c.args.settings.now.volume c.journal_area-area.result
     c.args.settings.now.journal_area c.volume-volume.ensures.same c.journal_area-area.ensures.same
-    (refused_redone g.S.Storage c.volume-volume.result c.journal_area-area.result c.args.site.now c.in_ok-epoch.ensures.judged DurableView c.in_err-durable.field-0.0 c.in_err-durable.ensures.faults
+    (refused_replay g.S.Storage c.volume-volume.result c.journal_area-area.result c.args.site.now c.in_ok-epoch.ensures.judged DurableView c.in_err-durable.field-0.0
     (λ at is.
     fails_there g.S.Storage c.volume-volume.result c.journal_area-area.result c.args.site.now c.find_epoch.new.cloud c.find_epoch.ensures.looks c.read_and_claim.new.site c.in_ok-journal.journal
     c.in_ok-journal.ensures.volume c.in_ok-journal.ensures.size c.read_and_claim.ensures.image c.in_ok-journal.ensures.read at (c.in_err-durable.ensures.foreign at is))))
@@ -99,9 +106,9 @@ returns-in_err-durable-clause-sound g c =
     rw p.1
     (sound_ends g.S.Storage c.args.settings.now.volume c.args.settings.now.journal_area c.args.site.now (DurableView × Opened) p.0
     (rw p.2
-    (at_settings (λ v a. WhereBothTold g.S.Storage c.args.site.now (IsRefusedBy v a c.in_err-durable.field-0.0)) c.volume-volume.result c.args.settings.now.volume c.journal_area-area.result
+    (at_settings (λ v a. WhereBothTold g.S.Storage c.args.site.now (IsRefusedBy v a (of_replay c.in_err-durable.field-0.0))) c.volume-volume.result c.args.settings.now.volume c.journal_area-area.result
     c.args.settings.now.journal_area c.volume-volume.ensures.same c.journal_area-area.ensures.same
-    (refused_redone g.S.Storage c.volume-volume.result c.journal_area-area.result c.args.site.now c.in_ok-epoch.ensures.judged DurableView c.in_err-durable.field-0.0 c.in_err-durable.ensures.faults
+    (refused_replay g.S.Storage c.volume-volume.result c.journal_area-area.result c.args.site.now c.in_ok-epoch.ensures.judged DurableView c.in_err-durable.field-0.0
     (λ at is.
     fails_there g.S.Storage c.volume-volume.result c.journal_area-area.result c.args.site.now c.find_epoch.new.cloud c.find_epoch.ensures.looks c.read_and_claim.new.site c.in_ok-journal.journal
     c.in_ok-journal.ensures.volume c.in_ok-journal.ensures.size c.read_and_claim.ensures.image c.in_ok-journal.ensures.read at (c.in_err-durable.ensures.foreign at is))))))
@@ -111,7 +118,7 @@ returns-in_err-durable-clause-untouched g c =
     let p = err_from_is_err_and c.from_residual-in_err-durable.result c.from_residual-in_err-durable.ensures.1 in
     rw (p.1, p.2)
     (untouched_redone g.S.Storage c.args.site.now c.find_epoch.new.cloud c.read_and_claim.new.site c.continue_from.new.disk c.find_epoch.ensures.looks c.read_and_claim.ensures.image DurableView
-    c.in_err-durable.field-0.0 c.in_err-durable.ensures.faults c.in_err-durable.ensures.kept)
+    c.in_err-durable.field-0.0 c.in_err-durable.ensures.kept)
 
 pub returns-in_err-durable-clause-unread : goal.returns-in_err-durable-clause-unread
 returns-in_err-durable-clause-unread g c =

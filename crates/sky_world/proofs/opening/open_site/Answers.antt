@@ -1,4 +1,5 @@
-use Rattle.sky_world.proofs.OpenedLaws.{counts_cloud, counts_disk, left_as, opened_as, refused_as}
+use Rattle.std.proofs.Common.{ℕ}
+use Rattle.sky_world.proofs.OpenedLaws.{counts_cloud, counts_disk, counts_of, left_as, opened_as, refused_as}
 use Rattle.sky_world.proofs.opening.open_site.Goals as goal
 
 pub returns-in-Ok-clause-found : goal.returns-in-Ok-clause-found
@@ -15,7 +16,9 @@ returns-in-Err-clause-disk_cause g c =
 
 pub returns-in-Err-clause-cloud_cause : goal.returns-in-Err-clause-cloud_cause
 returns-in-Err-clause-cloud_cause g c =
-    rw c.status_of.ensures.status (counts_cloud (g.S.Storage.cloud_faults c.args.site.now) (g.S.Storage.cloud_faults c.recover.new.site) c.in-Err.fault (rw c.in-Err.is at c.recover.ensures.cloud_cause))
+    let a : ℕ = g.S.Storage.cloud_faults c.args.site.now in
+    let b : ℕ = g.S.Storage.cloud_faults c.recover.new.site in
+    rw c.status_of.ensures.status (counts_cloud a b c.in-Err.fault (counts_of a b c.recover.ensures.cloud_grows (rw c.in-Err.is at c.recover.ensures.cloud_cause) (rw c.in-Err.is at c.recover.ensures.cloud_quiet)))
 
 pub returns-in-Err-clause-untouched : goal.returns-in-Err-clause-untouched
 returns-in-Err-clause-untouched g c =

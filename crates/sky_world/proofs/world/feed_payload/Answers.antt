@@ -1,7 +1,7 @@
 use Rattle.std.proofs.Common.{◌∙◌, refl, arith}
 use Rattle.sky_base.specs.declared.status.Status.TheVariants.{JournalFault, SinkFault}
 use Rattle.sky_world.proofs.FeedLaws.{err_inside}
-use Rattle.sky_world.proofs.PayloadLaws.{are_bytes, so_far_begins, so_far_on, so_far_closes, so_far_fails, so_far_down, so_far_whole}
+use Rattle.sky_world.proofs.PayloadLaws.{so_far_begins, so_far_on, so_far_closes, so_far_fails, so_far_down, so_far_whole}
 use Rattle.sky_world.proofs.world.feed_payload.Goals as goal
 
 pub loop-taken-init : goal.loop-taken-init
@@ -37,14 +37,14 @@ returns-then-not-stays-clause-ok g c =
     let l = c.loop-taken in
     so_far_closes g.D.Storage c.args.session c.args.service.now c.args.disk.now c.args.assembler c.args.payload.now l.taken l.service l.disk l.assembler (g.K.Sink.written c.args.sink.now) (g.K.Sink.written l.sink)
     (g.K.Sink.written c.feed_once.new.sink) l.invariant.so_far c.in-Ok.count c.feed_once.new.service c.feed_once.new.disk c.feed_once.new.assembler h.0 c.in-Ok.stays c.if-not-stays.true
-    (are_bytes c.args.payload.now (λ i. omega (arith, c.type_inv.payload i))) h.1 h.2
+    (λ i. omega (arith, c.type_inv.payload i)) h.1 h.2
 
 pub returns-in-Err-clause-partly : goal.returns-in-Err-clause-partly
 returns-in-Err-clause-partly g c = λ e.
     let h = c.in-Err.ensures.partly (err_inside c.in-Err.status SinkFault e) in
     let l = c.loop-taken in
     so_far_fails g.D.Storage c.args.session c.args.service.now c.args.disk.now c.args.assembler c.args.payload.now l.taken l.service l.disk l.assembler (g.K.Sink.written c.args.sink.now) (g.K.Sink.written l.sink)
-    (g.K.Sink.written c.feed_once.new.sink) l.invariant.so_far h.0 h.1 c.feed_once.new.disk h.2 h.3 h.4 (are_bytes c.args.payload.now (λ i. omega (arith, c.type_inv.payload i))) h.5 h.6
+    (g.K.Sink.written c.feed_once.new.sink) l.invariant.so_far h.0 h.1 c.feed_once.new.disk h.2 h.3 h.4 (λ i. omega (arith, c.type_inv.payload i)) h.5 h.6
 
 pub returns-in-Err-clause-fails : goal.returns-in-Err-clause-fails
 returns-in-Err-clause-fails g c = λ e.
@@ -59,4 +59,4 @@ pub returns-clause-ok : goal.returns-clause-ok
 returns-clause-ok g c =
     let l = c.loop-taken in
     so_far_whole g.D.Storage c.args.session c.args.service.now c.args.disk.now c.args.assembler c.args.payload.now l.taken l.service l.disk l.assembler (g.K.Sink.written c.args.sink.now) (g.K.Sink.written l.sink)
-    (g.K.Sink.written l.sink) l.invariant.so_far (omega (arith, c.loop-taken-test.false)) (are_bytes c.args.payload.now (λ i. omega (arith, c.type_inv.payload i)))
+    (g.K.Sink.written l.sink) l.invariant.so_far (omega (arith, c.loop-taken-test.false)) (λ i. omega (arith, c.type_inv.payload i))

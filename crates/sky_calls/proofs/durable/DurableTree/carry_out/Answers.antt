@@ -3,7 +3,8 @@ use Rattle.sky_calls.specs.Stable.{is_stable_call}
 use Rattle.sky_entry.specs.Entry.{entry_bytes}
 use Rattle.sky_nfs.specs.Procedure.{tree_after}
 use Rattle.sky_journal.specs.Journal.{JournalView, IsJournal, IsFramed, SameButSpare}
-use Rattle.sky_calls.specs.Durable.{DurableView, HoldsMore, Lasts, LeavesOldOrAll, entries_kept}
+use Rattle.sky_calls.specs.Durable.{DurableView, Lasts, LeavesOldOrAll, entries_kept}
+use Rattle.sky_journal.specs.Lasting.{HoldsMore}
 use Rattle.sky_calls.proofs.Carried.{ok_at, procedure_tree}
 use Rattle.sky_calls.proofs.Framed.{entry_framed}
 use Rattle.sky_calls.proofs.Moments.{holds_spare, lasts_spare, waiting_moments, StandsOn-spare, moments_spare}

@@ -1,6 +1,7 @@
 use Rattle.std.proofs.Common.{ap, subst, OnOk}
 use Rattle.sky_journal.specs.Journal.{JournalView}
-use Rattle.sky_calls.specs.Durable.{DurableView, HoldsMore, LeavesOldOrMore}
+use Rattle.sky_calls.specs.Durable.{DurableView}
+use Rattle.sky_journal.specs.Lasting.{HoldsMore, LeavesOldOrMore}
 use Rattle.sky_calls.proofs.durable.DurableTree.commit.Goals as goal
 
 pub returns-clause-holds : goal.returns-clause-holds

@@ -1,5 +1,5 @@
 use Rattle.std.proofs.Common.{[]}
-use Rattle.sky_journal.specs.Journal.{Reads, without_newer}
+use Rattle.sky_journal.specs.Journal.{ReadsEntries, without_newer}
 use Rattle.sky_journal.proofs.Calls.{still_from}
 use Rattle.sky_journal.proofs.Inside.{journal_known}
 use Rattle.sky_journal.proofs.Rest.{rest_same}
@@ -7,7 +7,7 @@ use Rattle.sky_journal.proofs.journal.Journal.close_newer.Goals as goal
 
 pub returns-in-None-clause-any_moment : goal.returns-in-None-clause-any_moment
 returns-in-None-clause-any_moment g c =
-    still_from g.D.Storage c.args.disk.now c.args.self.now (λ older newer left. Reads (without_newer c.args.self.now) [] older left)
+    still_from g.D.Storage c.args.disk.now c.args.self.now (λ older newer left. ReadsEntries (without_newer c.args.self.now) [] older left)
     (journal_known c.self.inside c.args.self.now c.self.invariant c.self.view_is) c.requires.stands.durable
 
 pub returns-in-None-clause-rest : goal.returns-in-None-clause-rest

@@ -1,6 +1,6 @@
 use Rattle.std.proofs.Common.{refl, sym, ◌∙◌}
 use Rattle.sky_calls.proofs.Carried.{ok_at}
-use Rattle.sky_calls.specs.Durable.{HoldsMore}
+use Rattle.sky_journal.specs.Lasting.{HoldsMore}
 use Rattle.sky_journal.specs.Journal.{SameButSpare, StandsOn, after_commit}
 use Rattle.sky_world.specs.World.{ServiceView}
 use Rattle.sky_world.proofs.CarryLaws.{becomes_committed, becomes_down, becomes_read}

@@ -12,3 +12,12 @@ returns-clause-ok g c =
     let world : WorldView = record { settings = i.settings; service = i.service; sessions = i.sessions; ended = i.ended } in
     ok_then d.result (λ h. stepped_ended g.S.Storage c.args.self.now world c.args.site.now d.new.site (frame_of c.args.frame.now) (got (g.K.Sink.written c.args.sink.now) (g.K.Sink.written d.new.sink)) c.is_err-self-inside.result h)
     (rw (← c.self.view_is) at d.ensures.ok)
+
+pub returns-clause-cloud_grows : goal.returns-clause-cloud_grows
+returns-clause-cloud_grows g c = c.do_frame-outcome.ensures.cloud_cause.grows
+
+pub returns-clause-cloud_cause : goal.returns-clause-cloud_cause
+returns-clause-cloud_cause g c = c.do_frame-outcome.ensures.cloud_cause.cause
+
+pub returns-clause-cloud_quiet : goal.returns-clause-cloud_quiet
+returns-clause-cloud_quiet g c = c.do_frame-outcome.ensures.cloud_cause.quiet
