@@ -1,6 +1,5 @@
 -- A list of words, taken apart as the code takes it apart, and the lines that say a command.
-use Rattle.std.proofs.Common.{◌≡◌, ◌↔◌, ◌≤◌, ◌<◌, ◌&&◌, ◌==◌, ◌-◌, ℕ, suc, Bool, true, false, List, [], ◌∷◌, Option, Some, None, Result, Ok, Err, is_some, is_none, String, Global, string_bytes, map, length, take, drop, get_or, refl, ap, sym, ◌∙◌, subst, arith, rules, unwrap_or}
-use Rattle.std.proofs.lemmas.Bool.{and_parts, false≢true}
+use Rattle.std.proofs.Common.{◌≡◌, ◌↔◌, ◌≤◌, ◌<◌, ◌&&◌, ◌==◌, ◌-◌, ℕ, suc, Bool, true, List, [], ◌∷◌, Option, Some, None, Result, Ok, Err, is_some, is_none, String, Global, string_bytes, map, length, take, drop, get_or, refl, ap, sym, ◌∙◌, subst, arith, rules, unwrap_or}
 use Rattle.std.proofs.lemmas.List.{take_all}
 use Rattle.std.specs.List.{list_any, list_all}
 use Rattle.std.specs.Str.{bytes_eq}
@@ -26,9 +25,9 @@ are_options-short names (w ∷ v ∷ more) h = absurd (omega (arith, h))
 -- the test of the first option, and that of those behind it
 pub are_options-pair : (names : List (List ℕ)) (ws : List Word) (word value : Word) → 2 ≤ length ws → word ≡ get_or ws 0 word → value ≡ get_or ws 1 value
     → are_options names (map string_bytes ws)
-      ≡ (((list_any (bytes_eq (string_bytes word)) names && is_value (string_bytes value))
-          && is_none (value_of (string_bytes word) (map string_bytes (take (length ws - 2) (drop 2 ws)))))
-        && are_options names (map string_bytes (take (length ws - 2) (drop 2 ws))))
+    ≡ (((list_any (bytes_eq (string_bytes word)) names && is_value (string_bytes value))
+    && is_none (value_of (string_bytes word) (map string_bytes (take (length ws - 2) (drop 2 ws)))))
+    && are_options names (map string_bytes (take (length ws - 2) (drop 2 ws))))
 are_options-pair names [] word value h e f = absurd (omega (arith, h))
 are_options-pair names (w ∷ []) word value h e f = absurd (omega (arith, h))
 are_options-pair names (w ∷ v ∷ more) word value h e f = rw e (rw f (rw (take_all (suc (suc (length more)) - 2) more (omega arith)) refl))
@@ -65,17 +64,19 @@ same_command a b e = ap (λ o. unwrap_or o a) e
 pub read-taken : (a : Command) (name : List ℕ) (options : List (List ℕ)) → IsNamed (Some a) name options
     → are_options (known_to a) options ≡ true → has_needed a options ≡ true → IsReading (Some a) name options
 read-taken a name options h known needed command = (
-    (λ e. let P : Command → Type 0 = λ x. IsLineOf x name options in
+  (λ e. let P : Command → Type 0 = λ x. IsLineOf x name options in
       subst P (same_command a command e) (record { name = ((h a).0 refl).0; known = known; needed = needed; numbers = ((h a).0 refl).1 })),
-    (λ line. (h command).1 (line.name, line.numbers)))
+  (λ line. (h command).1 (line.name, line.numbers)),
+)
 
 -- a command that lacks an option, or has one too many, is not said
 pub read-refused : (a : Command) (name : List ℕ) (options : List (List ℕ)) → IsNamed (Some a) name options
     → (IsLineOf a name options → ⊥) → IsReading None name options
 read-refused a name options h wrong command = (
-    (λ e. absurd (search rules)),
-    (λ line. let P : Command → Type 0 = λ x. IsLineOf x name options in
-      absurd (wrong (subst P (sym (same_command a command ((h command).1 (line.name, line.numbers)))) line))))
+  (λ e. absurd (search rules)),
+  (λ line. let P : Command → Type 0 = λ x. IsLineOf x name options in
+      absurd (wrong (subst P (sym (same_command a command ((h command).1 (line.name, line.numbers)))) line))),
+)
 
 pub read-unnamed : (name : List ℕ) (options : List (List ℕ)) → IsNamed None name options → IsReading None name options
 read-unnamed name options h command = ((λ e. absurd (search rules)), (λ line. (h command).1 (line.name, line.numbers)))

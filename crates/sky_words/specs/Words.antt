@@ -55,7 +55,7 @@ abbrev pub GivesNumbers : List (List ℕ) → Command → Type 0
 GivesNumbers options Replay = Unit {0}
 GivesNumbers options (Clean steps) = IsSomeAnd (value_of (codes "--steps") options) (IsNumber 1 65536 steps)
 GivesNumbers options (Generate seed files) = IsSomeAnd (value_of (codes "--seed") options) (IsNumber 0 4294967295 seed)
-  × IsSomeAnd (value_of (codes "--files") options) (IsNumber 1 1000 files)
+    × IsSomeAnd (value_of (codes "--files") options) (IsNumber 1 1000 files)
 GivesNumbers options Serve = Unit {0}
 
 -- the words say a command: its name stands first, and behind it are options of this command, none of those missing that it must have

@@ -47,10 +47,7 @@ fn is_known(command: Command, word: &str) -> bool
                 || word == "--files"
         }
         Command::Serve => {
-            word == "--settings"
-                || word == "--journal"
-                || word == "--cloud"
-                || word == "--listen"
+            word == "--settings" || word == "--journal" || word == "--cloud" || word == "--listen"
         }
     }
 }

@@ -10,7 +10,8 @@ returns-then-are_complete c =
 
 pub returns-else-are_known : goal.returns-else-are_known
 returns-else-are_known c = elim c.else-are_known.branch [
-    else-are_known-via-then-are_known+else-are_complete w ↦
+  | else-are_known-via-then-are_known+else-are_complete w ↦
       read-refused c.in-Some.command _ _ c.in-Some.ensures (λ line. false≢true (sym w.if-are_complete.false ∙ w.are_complete.ensures ∙ line.needed))
   | else-are_known-via-else-are_known w ↦
-      read-refused c.in-Some.command _ _ c.in-Some.ensures (λ line. false≢true (sym w.if-are_known.false ∙ c.are_known.ensures ∙ line.known)) ]
+      read-refused c.in-Some.command _ _ c.in-Some.ensures (λ line. false≢true (sym w.if-are_known.false ∙ c.are_known.ensures ∙ line.known))
+]
