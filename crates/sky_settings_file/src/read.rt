@@ -12,7 +12,7 @@ use std::str;
 use thiserror::Error;
 
 /// Why a text says no settings.
-#[derive(Clone, Copy, PartialEq, Eq, Debug, Error)]
+#[derive(Clone, Copy, Debug, Error)]
 pub enum SettingsFault {
     /// The text is no table of settings in their ranges.
     #[error("the text is no table of settings in their ranges")]

@@ -9,7 +9,7 @@ use sky_base::Status;
 use std::fmt;
 
 /// How the program ends. As text, it's two lines: the name of the ending and what happened, and then what to do.
-#[derive(Clone, Copy, Debug, PartialEq, Eq)]
+#[derive(Clone, Copy)]
 pub enum Ending {
     /// As the run of a command ended.
     Ran(Status),

@@ -8,7 +8,7 @@ use crate::options::{are_complete, are_known, find_number};
 use thiserror::Error;
 
 /// What the program is asked to do.
-#[derive(Clone, Copy, PartialEq, Eq, Debug)]
+#[derive(Clone, Copy)]
 pub enum Command {
     /// Replay a recorded session.
     Replay,
@@ -29,7 +29,7 @@ pub enum Command {
 }
 
 /// Why words are no command, or don't tell what they name.
-#[derive(Clone, Copy, PartialEq, Eq, Debug, Error)]
+#[derive(Clone, Copy, Debug, Error)]
 pub enum WordsFault {
     /// The words aren't of the grammar.
     #[error("the words are no command")]
