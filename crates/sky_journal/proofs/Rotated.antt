@@ -15,7 +15,7 @@ use Rattle.sky_journal.specs.declared.open_area.OpenArea.{OpenArea}
 use Rattle.sky_journal.proofs.Calls.{moments_from, holds_from, stands_from}
 use Rattle.sky_journal.proofs.Crash.{header_torn, area_torn, rotated}
 use Rattle.sky_journal.proofs.Journals.{IsJournal-after_rotation}
-use Rattle.sky_journal.proofs.Reading.{reads, reads-later, Reads-after_rotation}
+use Rattle.sky_journal.proofs.Reading.{reads, reads-later, ReadsEntries-after_rotation}
 
 -- the journal with its new area, by its fields
 pub rotation_view : (j : Inside) (v : JournalView) (start base : ℕ) → the_view j ≡ v → v.down ≡ false → start ≡ start_beside v.size v.newer
@@ -53,7 +53,7 @@ module _ (j : JournalView) (base : ℕ) (bytes : List ℕ) (start : ℕ) (r : Ro
   then_reads : (left : List ℕ) (older newer : List (List ℕ)) → StandsFor (after_rotation j base) left newer []
       → ReadsAs j.volume j.size (first_base (after_rotation j base)) (entries j older newer) left
   then_reads left older newer stands =
-      Reads-after_rotation j base left older newer r.free
+      ReadsEntries-after_rotation j base left older newer r.free
       (reads (after_rotation j base) left newer [] (IsJournal-after_rotation j base r.is r.number r.goes_on r.settled) stands)
 
   -- so does all that is left while it goes on

@@ -3,12 +3,13 @@ use Rattle.sky_base.specs.declared.status.Status.{Status}
 use Rattle.sky_base.specs.declared.status.Status.TheVariants as status
 use Rattle.sky_recover.specs.Opening.{WhereBothTold}
 use Rattle.sky_world.specs.Opening.{IsRefusedAs}
+use Rattle.sky_world.specs.World.{tells}
 use Rattle.sky_settings.specs.declared.settings.Fields.{Fields}
 use Rattle.bluesky.specs.Run.{RanOn}
 use Rattle.bluesky.specs.Stop.{Opened}
 use Rattle.bluesky.proofs.Beginning.{opening_whole, ran_counted, ran_failed}
 use Rattle.bluesky.proofs.Endings.{counts_on, ok_not_err, ok_quiet}
-use Rattle.bluesky.proofs.Sites.{refused_unsound}
+use Rattle.bluesky.proofs.Sites.{refused_unsound, untold_unsound}
 use Rattle.bluesky.proofs.run.replay.Goals as goal
 
 pub returns-in-Err-open-clause-ran : goal.returns-in-Err-open-clause-ran
@@ -47,3 +48,9 @@ returns-in-Ok-clause-ran g c =
     (record { before = written c.args.sink.now; after = written ran.new.sink; faults_before = faults opened_sink; faults_after = faults ran.new.sink })) same
     (ran.ensures.ran c.args.site.now (written c.args.sink.now) world.0 opened world.2
     (opening_whole world.0 (written c.args.sink.now) (written begun) (written opened_sink) c.in_default.ensures.ok world.3)))
+
+pub returns-in-Ok-clause-sound : goal.returns-in-Ok-clause-sound
+returns-in-Ok-clause-sound g c = λ damage.
+    let world = c.in-Ok.ensures.world in
+    untold_unsound g.P.Storage c.args.settings.volume c.args.settings.journal_area c.args.site.now
+    (λ told. c.replay_opened.ensures.refused (tells g.P.Storage c.args.site.now) world.0 world.2 told damage)

@@ -1,9 +1,15 @@
 use Rattle.std.proofs.Common.{◌∙◌, [], refl}
+use Rattle.sky_world.specs.World.{tells}
 use Rattle.bluesky.specs.Run.{SinkUse, session_bytes}
 use Rattle.bluesky.specs.Stop.{magic_status_of}
 use Rattle.bluesky.proofs.Beginning.{gave_as, ran_otherwise}
 use Rattle.bluesky.proofs.Stopping.{ending_then}
 use Rattle.bluesky.proofs.run.replay_opened.Goals as goal
+
+pub returns-in-Ok-clause-ran : goal.returns-in-Ok-clause-ran
+returns-in-Ok-clause-ran g c =
+    λ first before found opened stands given.
+    c.handle_frames.ensures.ran (tells g.P.Storage first) found stands first (g.S.Source.left c.args.source.now) before opened c.in-Ok.ensures.ok given
 
 pub returns-clause-ran : goal.returns-clause-ran
 returns-clause-ran g c =
