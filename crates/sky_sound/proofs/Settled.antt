@@ -6,7 +6,7 @@ use Rattle.std.proofs.lemmas.Bool.{cases_lt, lt-ltb, le-ltb}
 use Rattle.sky_journal.specs.Journal.{JournalView, AreInOrder, IsJournal, SameButSpare, StandsFor, base_in, first_base, new_area, number_behind}
 use Rattle.sky_journal.specs.Laid.{IsLaid}
 use Rattle.sky_journal.specs.declared.open_area.OpenArea.{OpenArea}
-use Rattle.sky_sound.specs.Kept.{JournalState, area_state, journal_state, left_open}
+use Rattle.sky_sound.specs.Kept.{area_state, journal_state, left_open}
 use Rattle.sky_sound.specs.Settled.{has_above, settled, settled_newer, settled_older, unless_covered}
 use Rattle.sky_sound.proofs.Once.{journal_once}
 

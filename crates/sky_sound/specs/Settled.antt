@@ -1,7 +1,6 @@
 -- How an opening leaves the areas of a journal.
 use Rattle.std.specs.Prelude.{ℕ, Bool, false, nat_lt, [], Option, Some, None, if◌then◌else◌}
 use Rattle.sky_journal.specs.Journal.{JournalView, new_area}
-use Rattle.sky_journal.specs.declared.open_area.OpenArea.{OpenArea}
 
 -- ---- the rule, for areas of which the number of the last entry is known
 
