@@ -1,7 +1,7 @@
 -- What one name more changes in the answers to a listing.
-use Rattle.std.proofs.Common.{◌≡◌, ◌⊎◌, ◌↔◌, ⊎_elim, inl, inr, ℕ, ◌<◌, ◌≤◌, min, max, Bool, true, false, cond, List, [], ◌∷◌, ◌++◌, Option, Some, None, Ordering, IsTrue, refl, sym, ◌∙◌, ap, subst, arith}
-use Rattle.std.specs.Prelude.{IfNone}
-use Rattle.std.proofs.lemmas.List.Elements.{Contains-append_left, Contains-push, Contains-push_cases}
+use Rattle.std.proofs.Common.{◌≡◌, ◌⊎◌, ⊎_elim, inl, inr, ℕ, ◌<◌, ◌≤◌, min, max, Bool, true, false, cond, List, [], ◌∷◌, ◌++◌, Option, Some, None, Ordering, IsTrue, refl, sym, ◌∙◌, ap, subst, arith}
+use Rattle.std.specs.Prelude.{IfNone, IfSome, if◌then◌else◌}
+use Rattle.std.proofs.lemmas.List.Elements.{Contains-append_cases, Contains-append_left, Contains-append_right, Contains-push, Contains-push_cases}
 use Rattle.std.proofs.lemmas.Bool.{cases_lt}
 use Rattle.std.specs.declared.cmp.Ordering.TheVariants.{Less, Equal, Greater}
 use Rattle.std.specs.Ordering.{is_le, is_lt, ord_max, ordering_reverse}
@@ -13,7 +13,7 @@ use Rattle.sky_base.specs.declared.object.SegName.{SegName}
 use Rattle.sky_base.proofs.OrderLaws.{exact_names}
 use Rattle.sky_outside.specs.declared.site.Held.{Held}
 use Rattle.sky_outside.proofs.CloudLaws.{names_total}
-use Rattle.sky_checkpoint.specs.Listing.{CompleteRuns, IsCheckOf, IsListed, IsUpTo, KnownRuns, ProxyChecks}
+use Rattle.sky_checkpoint.specs.Listing.{CompleteRuns, IsCheckOf, IsLast, IsListed, IsUpTo, KnownRuns, ProxyChecks, is_check_of, last_checkpoint, later_of, with_name}
 use Rattle.sky_checkpoint.specs.SoFar.{GreatestSoFar, LastSoFar, LeastSoFar}
 
 -- the order of names
@@ -56,34 +56,56 @@ listed_cases listed held name is =
 
 -- ---- the last checkpoint of the proxy
 
-pub last_skips : (listed : List Held) (held : Held) (last : Option SegName) → ¬ (IsCheckOf Proxy held.name) → LastSoFar listed last → LastSoFar (listed ++ held ∷ []) last
-last_skips listed held last not_one = by last
-  where
-    before : (name : SegName) → ProxyChecks (listed ++ held ∷ []) name → ProxyChecks listed name
-    before name is = (⊎_elim (λ was. was) (λ now. absurd (not_one (subst (IsCheckOf Proxy) now is.1))) (listed_cases listed held name is.0), is.1)
+-- what is listed with one more, wherever that stands
+pub record IsOneMore (listed : List Held) (held : Held) (all : List Held) : Type 0 where
+  pub old : (name : SegName) → IsListed listed name → IsListed all name
+  pub this : IsListed all held.name
+  pub cases : (name : SegName) → IsListed all name → IsListed listed name ⊎ (name ≡ held.name)
 
-    by : (last : Option SegName) → LastSoFar listed last → LastSoFar (listed ++ held ∷ []) last
-    by None none = λ name is. none name (before name is)
-    by (Some name) found = record {
-      member = (listed_more listed held name found.member.0, found.member.1);
-      none_behind = λ other is. found.none_behind other (before other is);
-    }
+pub one_behind : (listed : List Held) (held : Held) → IsOneMore listed held (listed ++ held ∷ [])
+one_behind listed held = record { old = listed_more listed held; this = listed_now listed held; cases = listed_cases listed held }
 
-pub last_first : (listed : List Held) (held : Held) → IsCheckOf Proxy held.name → LastSoFar listed None → LastSoFar (listed ++ held ∷ []) (Some held.name)
-last_first listed held is_one none = record {
-  member = (listed_now listed held, is_one);
-  none_behind = λ other is. ⊎_elim (λ was. absurd (none other (was, is.1))) (λ now. subst (λ (n : SegName). IsUpTo other n) now (up_to_itself other)) (listed_cases listed held other is.0);
+one_before : (listed : List Held) (held : Held) → IsOneMore listed held (held ∷ listed)
+one_before listed held = record {
+  old = λ name is. (is.0, Contains-append_right (held ∷ []) listed is.0 is.1, is.2);
+  this = (held, Contains-append_left (held ∷ []) listed held (Contains-push [] held), refl);
+  cases = λ name is. ⊎_elim
+      (λ only. ⊎_elim (λ none. let below : none.0 < 0 = none.1 in absurd (omega arith)) (λ now. inr (sym is.2 ∙ ap (λ (h : Held). h.name) (sym now))) (Contains-push_cases [] held is.0 only))
+      (λ before. inl (is.0, before, is.2)) (Contains-append_cases (held ∷ []) listed is.0 is.1);
 }
 
-pub last_later : (listed : List Held) (held : Held) (last later : SegName) → IsCheckOf Proxy held.name → IsLater last held.name later → LastSoFar listed (Some last) → LastSoFar (listed ++ held ∷ []) (Some later)
-last_later listed held last later is_one is found = record {
-  member = ⊎_elim
-      (λ old. subst (ProxyChecks (listed ++ held ∷ [])) (sym old) (listed_more listed held last found.member.0, found.member.1))
-      (λ new. subst (ProxyChecks (listed ++ held ∷ [])) (sym new) (listed_now listed held, is_one)) is.one;
-  none_behind = λ other among. ⊎_elim
-      (λ was. up_to_trans other last later (found.none_behind other (was, among.1)) is.first)
-      (λ now. subst (λ (n : SegName). IsUpTo n later) (sym now) is.second) (listed_cases listed held other among.0);
-}
+module _ (listed : List Held) (held : Held) (all : List Held) (more : IsOneMore listed held all) where
+  last_skips : (last : Option SegName) → ¬ (IsCheckOf Proxy held.name) → LastSoFar listed last → LastSoFar all last
+  last_skips last not_one = by last
+    where
+      before : (name : SegName) → ProxyChecks all name → ProxyChecks listed name
+      before name is = (⊎_elim (λ was. was) (λ now. absurd (not_one (subst (IsCheckOf Proxy) now is.1))) (more.cases name is.0), is.1)
+
+      by : (last : Option SegName) → LastSoFar listed last → LastSoFar all last
+      by None none = λ name is. none name (before name is)
+      by (Some name) found = record { member = (more.old name found.member.0, found.member.1); none_behind = λ other is. found.none_behind other (before other is) }
+
+  last_later : (last : Option SegName) → IsCheckOf Proxy held.name → LastSoFar listed last → LastSoFar all (Some (later_of last held.name))
+  last_later None is_one none = record {
+    member = (more.this, is_one);
+    none_behind = λ other is. ⊎_elim (λ was. absurd (none other (was, is.1))) (λ now. subst (λ (n : SegName). IsUpTo other n) now (up_to_itself other)) (more.cases other is.0);
+  }
+  last_later (Some last) is_one found =
+      let later = max_is_later last held.name in
+      record {
+        member = ⊎_elim (λ old. subst (ProxyChecks all) (sym old) (more.old last found.member.0, found.member.1)) (λ new. subst (ProxyChecks all) (sym new) (more.this, is_one)) later.one;
+        none_behind = λ other among. ⊎_elim
+            (λ was. up_to_trans other last (ord_max name_order last held.name) (found.none_behind other (was, among.1)) later.first)
+            (λ now. subst (λ (n : SegName). IsUpTo n (ord_max name_order last held.name)) (sym now) later.second) (more.cases other among.0);
+      }
+
+  by_kind : (b : Bool) (last : Option SegName) → is_check_of Proxy held.name ≡ b → LastSoFar listed last → LastSoFar all (if b then Some (later_of last held.name) else last)
+  by_kind true last is found = last_later last is found
+  by_kind false last isnt found = last_skips last (λ is. let both : true ≡ false = sym is ∙ isnt in absurd cc) found
+
+  -- the last checkpoint with one more name
+  pub last_with_name : (last : Option SegName) → LastSoFar listed last → LastSoFar all (with_name last held.name)
+  last_with_name last found = by_kind (is_check_of Proxy held.name) last refl found
 
 -- ---- the least complete run
 
@@ -163,6 +185,11 @@ listed_none name is = let below : is.1.0 < 0 = is.1.1 in omega arith
 pub last_none : LastSoFar [] None
 last_none name is = listed_none name is.0
 
+-- what is computed of a listing is its last checkpoint
+last_computed : (listed : List Held) → LastSoFar listed (last_checkpoint listed)
+last_computed [] = last_none
+last_computed (held ∷ listed) = last_with_name listed held (held ∷ listed) (one_before listed held) (last_checkpoint listed) (last_computed listed)
+
 pub least_none : (above : ℕ) → LeastSoFar [] above None
 least_none above run is = listed_none is.1.0 is.1.1
 
@@ -172,17 +199,48 @@ greatest_none merged = record {
   none_above = λ other is. ⊎_elim (λ same. omega arith) (λ some. absurd (listed_none some.0 some.1)) is;
 }
 
--- what a test that failed, or held, says
-pub isnt_true : {P : Type 0} {b : Bool} → IsTrue b ↔ P → b ≡ false → ¬ P
-isnt_true tells e is = let both : true ≡ false = sym (tells.1 is) ∙ e in cc
+-- two last checkpoints are the same
+up_to_both : (a b : SegName) → IsUpTo a b → IsUpTo b a → a ≡ b
+up_to_both a b first second = by (name_order a b) refl
+  where
+    by : (o : Ordering) → name_order a b ≡ o → a ≡ b
+    by Less is =
+        let never : IsTrue (is_le Greater) = subst (λ (o : Ordering). IsTrue (is_le o)) (names_total.antisymm b a ∙ ap ordering_reverse is) second in
+        absurd cc
+    by Equal is = exact_names a b is
+    by Greater is = let never : IsTrue (is_le Greater) = subst (λ (o : Ordering). IsTrue (is_le o)) is first in absurd cc
 
-pub is_true : {P : Type 0} {b : Bool} → IsTrue b ↔ P → b ≡ true → P
-is_true tells e = tells.0 e
+one_last : (listed : List Held) (a b : Option SegName) → LastSoFar listed a → LastSoFar listed b → a ≡ b
+one_last listed None None first second = refl
+one_last listed None (Some b) first second = absurd (first b second.member)
+one_last listed (Some a) None first second = absurd (second a first.member)
+one_last listed (Some a) (Some b) first second = ap Some (up_to_both a b (second.none_behind a first.member) (first.none_behind b second.member))
+
+-- what was seen in the end is what is computed
+pub last_is : (listed : List Held) (last : Option SegName) → LastSoFar listed last → last ≡ last_checkpoint listed
+last_is listed last found = one_last listed last (last_checkpoint listed) found (last_computed listed)
+
+-- what a test that failed, or held, says
+pub isnt_true : {r b : Bool} → r ≡ b → r ≡ false → ¬ (IsTrue b)
+isnt_true tells e is = let both : true ≡ false = sym is ∙ sym tells ∙ e in cc
+
+pub is_true : {r b : Bool} → r ≡ b → r ≡ true → IsTrue b
+is_true tells e = sym tells ∙ e
 
 -- what was seen in the end is all
 pub none_listed : (listed : List Held) (last : Option SegName) → LastSoFar listed last → IfNone last ((name : SegName) → ¬ (ProxyChecks listed name))
 none_listed listed None none = none
 none_listed listed (Some name) found = tt
+
+pub last_listed : (listed : List Held) → IfSome (last_checkpoint listed) (IsLast (ProxyChecks listed))
+last_listed listed = by (last_checkpoint listed) (last_computed listed)
+  where
+    by : (last : Option SegName) → LastSoFar listed last → IfSome last (IsLast (ProxyChecks listed))
+    by None none = tt
+    by (Some name) found = found
+
+pub none_computed : (listed : List Held) → IfNone (last_checkpoint listed) ((name : SegName) → ¬ (ProxyChecks listed name))
+none_computed listed = none_listed listed (last_checkpoint listed) (last_computed listed)
 
 pub none_complete : (listed : List Held) (above : ℕ) (least : Option ℕ) → LeastSoFar listed above least → IfNone least ((run : ℕ) → ¬ (CompleteRuns listed above run))
 none_complete listed above None none = none

@@ -6,5 +6,5 @@ mod laws;
 mod listing;
 
 pub use check::{Check, PageLinks};
-pub use laws::checkpoints_come_back;
+pub use laws::{checkpoints_come_back, the_last_checkpoint_is_the_greatest};
 pub use listing::{complete_run, last_check, next_run};

@@ -6,8 +6,8 @@ ghost use Rattle.sky_base.specs.Limits.{max_number};
 ghost use Rattle.sky_base.specs.Order.{name_order};
 ghost use Rattle.sky_base.specs.declared.object.SegName.{SegName};
 ghost use Rattle.sky_outside.specs.declared.site.Held.{Held};
-ghost use Rattle.sky_checkpoint.specs.Listing.{CompleteRuns, IsCheckOf, IsLast, IsLeast, IsNextRun, IsUpTo, ProxyChecks};
-ghost use Rattle.sky_checkpoint.specs.SoFar.{LastSoFar, LeastSoFar, GreatestSoFar};
+ghost use Rattle.sky_checkpoint.specs.Listing.{CompleteRuns, IsLast, IsLeast, IsNextRun, ProxyChecks, is_check_of as is_check, last_checkpoint, with_name};
+ghost use Rattle.sky_checkpoint.specs.SoFar.{LeastSoFar, GreatestSoFar};
 
 use sky_base::{Dir, SegName};
 use sky_outside::Held;
@@ -15,6 +15,7 @@ use sky_outside::Held;
 /// The name of the last checkpoint of the proxy: of those that are listed the one that comes last in the order of names.
 /// `None` exactly where none is listed.
 pub fn last_check(names: &[Held]) -> Option<SegName>
+    ensures value { result ≡ last_checkpoint names.now }
     ensures last { IfSome result (IsLast (ProxyChecks names.now)) }
     ensures none { IfNone result ((name : SegName) → ¬ (ProxyChecks names.now name)) }
 {
@@ -54,7 +55,7 @@ pub fn next_run(names: &[Held], merged: u64) -> u64
 
 /// The later one of these, where this name is that of a checkpoint of the proxy.
 fn last_with(last: Option<SegName>, held: &Held) -> Option<SegName>
-    ensures { (listed : List Held) → LastSoFar listed last → LastSoFar (listed ++ held.now ∷ []) result }
+    ensures { result ≡ with_name last held.now.name }
 {
     let name = held.name;
     if !is_check_of(name, Dir::Proxy) {
@@ -95,7 +96,7 @@ fn greatest_with(greatest: u64, held: &Held) -> u64
 
 /// Whether a name is that of a checkpoint of a directory.
 fn is_check_of(name: SegName, dir: Dir) -> bool
-    ensures { IsTrue result ↔ IsCheckOf dir name }
+    ensures { result ≡ is_check dir name }
 {
     name.last && name.dir == dir
 }

@@ -1,12 +1,11 @@
 -- What is listed up to an object, and with it. Crates above cite this.
-use Rattle.std.specs.Prelude.{max, if◌then◌else◌}
-use Rattle.std.proofs.Common.{◌≡◌, ℕ, ◌+◌, ◌<◌, false, List, [], ◌∷◌, ◌++◌, length, take, get_or, add-one, Option, Some, ap, sym, ◌∙◌}
+use Rattle.std.specs.Prelude.{max}
+use Rattle.std.proofs.Common.{◌≡◌, ℕ, ◌+◌, ◌<◌, false, List, [], ◌∷◌, ◌++◌, length, take, get_or, add-one, ap, sym, ◌∙◌}
 use Rattle.std.proofs.Math.Seq.{take-suc}
 use Rattle.sky_base.specs.declared.object.Dir.TheVariants.{Proxy}
-use Rattle.sky_base.specs.declared.object.SegName.{SegName}
 use Rattle.sky_outside.specs.declared.site.Held.{Held}
-use Rattle.sky_sound.specs.Cloud.{epoch_behind, next_epoch, is_proxy_check, last_checkpoint}
-use Rattle.sky_sound.proofs.Clouds.{epoch_more, last_more}
+use Rattle.sky_sound.specs.Cloud.{epoch_behind, next_epoch}
+use Rattle.sky_sound.proofs.Clouds.{epoch_more}
 
 -- what stands for an object where a list has none
 abbrev pub no_object : Held
@@ -24,16 +23,3 @@ module _ (held : List Held) (i : ℕ) (within : i < length held) where
       → larger ≡ max so_far behind → larger ≡ next_epoch (take (i + 1) held)
   epoch_next so_far behind larger first here both =
       both ∙ ap (λ (n : ℕ). max n behind) first ∙ ap (λ (n : ℕ). max (next_epoch (take i held)) n) here ∙ sym epoch_with
-
-  checkpoint_with : last_checkpoint (take (i + 1) held)
-      ≡ (if is_proxy_check (get_or held i no_object).name.dir (get_or held i no_object).name.last then Some (get_or held i no_object).name else last_checkpoint (take i held))
-  checkpoint_with = ap last_checkpoint one_more ∙ last_more (take i held) (get_or held i no_object)
-
-  -- the same of the last checkpoint
-  pub checkpoint_next : (last next : Option SegName) → last ≡ last_checkpoint (take i held)
-      → next ≡ (if is_proxy_check (get_or held i no_object).name.dir (get_or held i no_object).name.last then Some (get_or held i no_object).name else last)
-      → next ≡ last_checkpoint (take (i + 1) held)
-  checkpoint_next last next so_far both =
-      both
-      ∙ ap (λ (o : Option SegName). if is_proxy_check (get_or held i no_object).name.dir (get_or held i no_object).name.last then Some (get_or held i no_object).name else o) so_far
-      ∙ sym checkpoint_with

@@ -13,7 +13,8 @@ use Rattle.sky_outside.specs.Told.{WhereTold}
 use Rattle.sky_outside.specs.declared.site.Held.{Held}
 use Rattle.sky_outside.specs.declared.storage.Storage.{Ghosts}
 use Rattle.sky_outside.proofs.ToldLaws.{WhereTold-at, WhereTold-from}
-use Rattle.sky_sound.specs.Cloud.{HasNoCheckpoint, last_checkpoint}
+use Rattle.sky_checkpoint.specs.Listing.{last_checkpoint}
+use Rattle.sky_sound.specs.Cloud.{HasNoCheckpoint}
 use Rattle.sky_sound.specs.Entries.{change_of, changes_in, entries_above, journal_of, with_change}
 use Rattle.sky_sound.specs.Recovery.{IsSound, recovered}
 use Rattle.sky_sound.specs.Refusal.{Refusal, Foreign}

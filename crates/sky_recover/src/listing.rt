@@ -1,19 +1,20 @@
 //! What a list of the cloud says: the next epoch, and the last checkpoint of the proxy.
 
-ghost use Rattle.std.specs.Prelude.{◌≡◌, ◌<◌, ◌≤◌, All, IfOk, IsErrOf, if◌then◌else◌};
+ghost use Rattle.std.specs.Prelude.{◌≡◌, ◌<◌, ◌≤◌, All, IfOk, IsErrOf};
 ghost use Rattle.sky_base.specs.Limits.{max_number};
 ghost use Rattle.sky_outside.specs.CloudMap.{listing};
 ghost use Rattle.sky_outside.specs.Count.{Counts};
 ghost use Rattle.sky_outside.specs.Moments.{OnlyLooks};
 ghost use Rattle.sky_outside.specs.Told.{WhereTold};
 ghost use Rattle.sky_outside.specs.declared.site.PutFault.TheVariants as put;
-ghost use Rattle.sky_sound.specs.Cloud.{epoch_after, epoch_behind as epoch_behind_of, is_proxy_check, last_checkpoint, next_epoch};
+ghost use Rattle.sky_sound.specs.Cloud.{epoch_after, epoch_behind as epoch_behind_of, next_epoch};
 ghost use Rattle.sky_recover.specs.Faults.{of_listing};
 ghost use Rattle.sky_recover.specs.Refusals.{IsJudged};
 ghost use Rattle.sky_recover.specs.declared.fault.ListFault.TheVariants.{CloudFault};
 
 use crate::fault::ListFault;
 use sky_base::{Damage, Dir, Lost, SegName};
+use sky_checkpoint::last_check;
 use sky_outside::{Cloud, Held, PutFault};
 
 /// What no epoch reaches.
@@ -57,27 +58,6 @@ fn epoch_in(held: &[Held]) -> u64
     epoch
 }
 
-/// The last checkpoint of the proxy, where this object is listed behind those of which this one was the last.
-fn checkpoint_behind(last: Option<SegName>, name: SegName) -> Option<SegName>
-    ensures { result ≡ (if is_proxy_check name.dir name.last then Some name else last) }
-{
-    match name.dir {
-        Dir::Proxy => { if name.last { Some(name) } else { last } }
-        Dir::Cleaner => last,
-    }
-}
-
-/// The last checkpoint of the proxy in a list of objects, which is the greatest.
-fn checkpoint_of(held: &[Held]) -> Option<SegName>
-    ensures { result ≡ last_checkpoint held.now }
-{
-    let mut last = None;
-    for object in held {
-        last = checkpoint_behind(last, object.name);
-    }
-    last
-}
-
 /// The next epoch of the proxy, which is below 2^62. It only looks at the cloud.
 ///
 /// `CloudFault` where the cloud failed, `Memory` where there was no memory for the list. Checkpoints are not read yet: where the cloud
@@ -92,7 +72,7 @@ pub(crate) fn find_epoch<C: Cloud>(cloud: &mut C) -> Result<u64, ListFault>
     ensures disk { C.disk_faults cloud.new ≡ C.disk_faults cloud.old }
 {
     let held = list_cloud(cloud)?;
-    if let Some(name) = checkpoint_of(&held) {
+    if let Some(name) = last_check(&held) {
         return Err(ListFault::Lost(Lost::Damaged {
             name,
             damage: Damage::Form { at: 0 },

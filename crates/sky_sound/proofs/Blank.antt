@@ -12,7 +12,8 @@ use Rattle.sky_outside.specs.CloudMap.{CloudMap, held_of}
 use Rattle.sky_journal.specs.Layout.{is_open}
 use Rattle.sky_journal.specs.Text.{Area, open_areas, first_area, second_area, areas_entries, entries_of}
 use Rattle.sky_journal.proofs.JournalRead.{large_enough}
-use Rattle.sky_sound.specs.Cloud.{HasNoCheckpoint, covers_of, cloud_tree, last_checkpoint}
+use Rattle.sky_checkpoint.specs.Listing.{last_checkpoint}
+use Rattle.sky_sound.specs.Cloud.{HasNoCheckpoint, covers_of, cloud_tree}
 use Rattle.sky_sound.specs.Entries.{is_of_change}
 use Rattle.sky_sound.specs.Recovery.{IsSound, recovered, history_from}
 use Rattle.sky_sound.proofs.Above.{recovered_is, history_is}

@@ -1,26 +1,19 @@
 -- What is listed of a cloud, object by object, and after a put. Crates above cite this.
-use Rattle.std.specs.Prelude.{max, if◌then◌else◌}
-use Rattle.std.proofs.Common.{◌≡◌, ℕ, Bool, true, false, List, [], ◌∷◌, ◌++◌, map, Option, Some, None, Ordering, refl, ap, ◌∙◌, arith}
+use Rattle.std.specs.Prelude.{max}
+use Rattle.std.proofs.Common.{◌≡◌, ℕ, false, List, [], ◌∷◌, ◌++◌, map, Option, None, Ordering, refl, ap, ◌∙◌, arith}
 use Rattle.std.specs.declared.cmp.Ordering.TheVariants.{Less, Equal, Greater}
 use Rattle.std.specs.FinMap.{entries, entries-insert}
 use Rattle.std.specs.FinMap.Entries.{put, by_order}
+use Rattle.sky_base.specs.declared.object.Dir.TheVariants.{Proxy}
 use Rattle.sky_base.specs.declared.object.SegName.{SegName}
 use Rattle.sky_base.specs.Order.{name_order}
 use Rattle.sky_outside.specs.CloudMap.{CloudMap, after_put, held_of}
 use Rattle.sky_outside.specs.declared.site.Held.{Held}
 use Rattle.sky_outside.proofs.CloudLaws.{names_total}
-use Rattle.sky_sound.specs.Cloud.{epoch_behind, next_epoch, is_proxy_check, or_this, last_checkpoint, checkpoint_in}
+use Rattle.sky_checkpoint.specs.Listing.{is_check_of, last_checkpoint, with_name}
+use Rattle.sky_sound.specs.Cloud.{epoch_behind, next_epoch, checkpoint_in}
 
 -- one object more is listed
-or_this_if : (b : Bool) (name : SegName) (o : Option SegName) (x : SegName) → or_this (if b then Some name else o) x ≡ (if b then Some name else or_this o x)
-or_this_if true name o x = refl
-or_this_if false name o x = refl
-
-pub last_more : (listed : List Held) (held : Held) → last_checkpoint (listed ++ held ∷ []) ≡ (if is_proxy_check held.name.dir held.name.last then Some held.name else last_checkpoint listed)
-last_more [] held = refl
-last_more (x ∷ listed) held =
-    ap (λ (o : Option SegName). or_this o x.name) (last_more listed held) ∙ or_this_if (is_proxy_check held.name.dir held.name.last) held.name (last_checkpoint listed) x.name
-
 pub epoch_more : (listed : List Held) (held : Held) → next_epoch (listed ++ held ∷ []) ≡ max (next_epoch listed) (epoch_behind held.name.dir held.name.run)
 epoch_more [] held = max_same (epoch_behind held.name.dir held.name.run)
   where
@@ -35,19 +28,18 @@ epoch_more (x ∷ listed) held =
 
 -- ---- after a put of what is no checkpoint
 
-passes : (name : SegName) (o : Option SegName) → is_proxy_check name.dir name.last ≡ false → or_this o name ≡ o
-passes name None isnt = rw isnt refl
-passes name (Some behind) isnt = refl
+passes : (last : Option SegName) (name : SegName) → is_check_of Proxy name ≡ false → with_name last name ≡ last
+passes last name isnt = rw isnt refl
 
-module _ (name : SegName) (bytes : List ℕ) (isnt : is_proxy_check name.dir name.last ≡ false) where
+module _ (name : SegName) (bytes : List ℕ) (isnt : is_check_of Proxy name ≡ false) where
   put_by : (o : Ordering) (e : SegName × List ℕ) (es : List (SegName × List ℕ)) → last_checkpoint (map held_of (put name_order name bytes es)) ≡ last_checkpoint (map held_of es)
       → last_checkpoint (map held_of (by_order o ((name, bytes) ∷ e ∷ es) ((e.0, bytes) ∷ es) (e ∷ put name_order name bytes es))) ≡ last_checkpoint (map held_of (e ∷ es))
-  put_by Less e es rest = passes name (last_checkpoint (map held_of (e ∷ es))) isnt
+  put_by Less e es rest = passes (last_checkpoint (map held_of (e ∷ es))) name isnt
   put_by Equal e es rest = refl
-  put_by Greater e es rest = ap (λ (o : Option SegName). or_this o e.0) rest
+  put_by Greater e es rest = ap (λ (last : Option SegName). with_name last e.0) rest
 
   put_listed : (es : List (SegName × List ℕ)) → last_checkpoint (map held_of (put name_order name bytes es)) ≡ last_checkpoint (map held_of es)
-  put_listed [] = passes name None isnt
+  put_listed [] = passes None name isnt
   put_listed (e ∷ es) = put_by (name_order name e.0) e es (put_listed es)
 
   -- the last checkpoint is as before

@@ -1,12 +1,13 @@
 -- What the cloud says of a volume: the epochs that its objects show, its last checkpoint, and the tree and the number of changes
 -- that it holds.
-use Rattle.std.specs.Prelude.{◌≡◌, ℕ, ◌+◌, max, Bool, false, List, [], ◌∷◌, Option, Some, None, if◌then◌else◌}
+use Rattle.std.specs.Prelude.{◌≡◌, ℕ, ◌+◌, max, List, [], ◌∷◌, Option, None}
 use Rattle.sky_base.specs.declared.object.Dir.{Dir}
 use Rattle.sky_base.specs.declared.object.Dir.TheVariants.{Proxy, Cleaner}
 use Rattle.sky_base.specs.declared.object.SegName.{SegName}
 use Rattle.sky_outside.specs.CloudMap.{CloudMap, listing}
 use Rattle.sky_outside.specs.declared.site.Held.{Held}
 use Rattle.sky_nfs.specs.Tree.{Tree, empty_tree}
+use Rattle.sky_checkpoint.specs.Listing.{last_checkpoint}
 
 -- the epoch behind that of an object of the proxy; the first epoch is 1, whatever the cleaner has
 abbrev pub epoch_behind : Dir → ℕ → ℕ
@@ -18,25 +19,11 @@ abbrev pub next_epoch : List Held → ℕ
 next_epoch [] = 1
 next_epoch (held ∷ more) = max (epoch_behind held.name.dir held.name.run) (next_epoch more)
 
--- whether an object of this directory is a checkpoint of the proxy, where it is a checkpoint (`.k`) at all
-abbrev pub is_proxy_check : Dir → Bool → Bool
-is_proxy_check Proxy last = last
-is_proxy_check Cleaner last = false
-
--- the checkpoint that comes last: one that was found behind this name, or this name if it is one
-abbrev pub or_this : Option SegName → SegName → Option SegName
-or_this (Some behind) name = Some behind
-or_this None name = if is_proxy_check name.dir name.last then Some name else None
-
--- the last checkpoint of the proxy that is listed, which is the greatest, as objects are listed in their order
-abbrev pub last_checkpoint : List Held → Option SegName
-last_checkpoint [] = None
-last_checkpoint (held ∷ more) = or_this (last_checkpoint more) held.name
-
--- the same of the objects that a cloud holds
+-- the same by the objects that a cloud holds
 abbrev pub epoch_after : CloudMap → ℕ
 epoch_after objects = next_epoch (listing objects)
 
+-- the last checkpoint of the proxy among the objects that a cloud holds
 abbrev pub checkpoint_in : CloudMap → Option SegName
 checkpoint_in objects = last_checkpoint (listing objects)
 
