@@ -330,8 +330,8 @@ module _ {S : Type 0} (g : Ghosts S) (old : WorldView) (m t : S) (state : State)
             (invariant_found g v a m t found is opens claims (kept_of found) all),
       )
 
-  pub reached : (next : State) × Restarts state known (opening found ∷ []) next × Stands g (reopened_world old found) t next
-  reached =
+  pub opened_again : (next : State) × Restarts state known (opening found ∷ []) next × Stands g (reopened_world old found) t next
+  opened_again =
       ⊎_elim (λ (told : state.told ≡ true). let r = reached_known told in (opened_state state.told (state.epoch + 1) state.moment known, r.0, r.1))
       (λ (told : state.told ≡ false). let r = reached_untold told in (opened_state state.told found.epoch state.moment (kept_of found), r.0, r.1)) (cases_Bool state.told)
 
@@ -378,7 +378,7 @@ module _ {S : Type 0} (g : Ghosts S) (old : WorldView) (s t : S) (state : State)
   pub restarted : (found : Found) → IsFoundOn g old.settings.volume old.settings.journal_area s found → IsOpenOn g t found → BothTold (λ old new. new ≡ claimed old) (g.objects s) (g.objects t)
       → BothTold (λ old new. Unit {0}) (g.image s) (g.image t) → (next : State) × Restarts state (reopened state.kept) (opening found ∷ []) next × Stands g (reopened_world old found) t next
   restarted found is opens claims images =
-      reached g old s t state (reopened state.kept) stands.volume stands.area stands.service.moment stands.told found is opens claims images (λ told. restart_known found is told)
+      opened_again g old s t state (reopened state.kept) stands.volume stands.area stands.service.moment stands.told found is opens claims images (λ told. restart_known found is told)
 
   -- a crash at any moment of an opening leaves what the state before says
   pub restart_leaves : LeavesFound g old.settings.volume old.settings.journal_area s t → LeavesFinding g s t state.epoch state.kept.mark state.kept

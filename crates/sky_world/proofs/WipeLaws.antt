@@ -31,7 +31,7 @@ use Rattle.sky_world.specs.World.{Stands, WorldView, tells}
 use Rattle.sky_world.proofs.DiskLaws.{as_kept, prefix_read, read_has, size_is, storable_to}
 use Rattle.sky_world.proofs.FindingLaws.{Begins, begins_at, both_told_at, both_told_from, finds_at, finds_same, history_at, leaves_as, leaves_finding, sound_at, stands_begins}
 use Rattle.sky_world.proofs.PartLaws.{history_between}
-use Rattle.sky_world.proofs.ReopenLaws.{Matches, found_journal, has_told, matches_to, reached, told_on}
+use Rattle.sky_world.proofs.ReopenLaws.{Matches, found_journal, has_told, matches_to, opened_again, told_on}
 
 -- ---- what the older area has
 
@@ -284,4 +284,4 @@ module _ {S : Type 0} (g : Ghosts S) (old : WorldView) (s m : S) (state : State)
       pub restarted_bare : (found : Found) → IsFoundOn g old.settings.volume old.settings.journal_area m found → IsOpenOn g t found → BothTold (λ old new. new ≡ claimed old) (g.objects m) (g.objects t)
           → BothTold (λ old new. Unit {0}) (g.image m) (g.image t) → (next : State) × Restarts state (given_up state.kept) (opening found ∷ []) next × Stands g (reopened_world old found) t next
       restarted_bare found is opens claims images =
-          reached g old m t state (given_up state.kept) stands.volume stands.area stands.service.moment bare_tells found is opens claims images (λ told. bare_known found is told)
+          opened_again g old m t state (given_up state.kept) stands.volume stands.area stands.service.moment bare_tells found is opens claims images (λ told. bare_known found is told)
