@@ -12,7 +12,7 @@ use Rattle.sky_outside.specs.Told.{HadPart, Given, GivenPart}
 use Rattle.sky_outside.specs.declared.storage.Storage.{Ghosts}
 use Rattle.sky_outside.proofs.ToldLaws.{Given-then}
 use Rattle.sky_recover.specs.Opening.{Found, IsFoundOn, LeavesFound, WhereBothTold}
-use Rattle.sky_script.specs.Frame.{InFrame, out_frame, magic}
+use Rattle.sky_script.specs.Frame.{out_frame, magic}
 use Rattle.sky_script.specs.Beginning.{HadSome}
 use Rattle.sky_script.specs.declared.reading.FrameFault.{FrameFault}
 use Rattle.sky_script.specs.declared.reading.FrameFault.TheVariants as fault
@@ -22,7 +22,7 @@ use Rattle.sky_world.specs.Meaning.{opening, start}
 use Rattle.sky_world.specs.Opening.{IsOfOpening, IsRefusedAs, LeavesCloudAs, LeavesRefusedAs}
 use Rattle.sky_world.specs.World.{ClaimsFailed, WorldView, Stands, tells}
 use Rattle.sky_world.proofs.FindingLaws.{both_told_from}
-use Rattle.bluesky.specs.Run.{SourceUse, SinkUse, other_magic, within_magic, GaveEnding, GaveUnopened, IsOfDamage, SinkCounts, at_opening, Course, End, EndsBy, LastStep, Ran, RanOn, RanUnopened, Used, end_at, no_course, session_bytes}
+use Rattle.bluesky.specs.Run.{SourceUse, SinkUse, other_magic, within_magic, GaveEnding, GaveUnopened, IsOfDamage, SinkCounts, at_opening, Course, EndsBy, LastStep, Ran, RanOn, RanUnopened, end_at, no_course, session_bytes}
 use Rattle.bluesky.specs.Stop.{magic_status_of, NoMagic, IsShort, Opened}
 use Rattle.bluesky.proofs.Going.{nothing_handled, session-nothing}
 use Rattle.bluesky.proofs.Leaving.{opened_run}

@@ -2,10 +2,10 @@
 --   step_claims, steps_claim      a restart comes to the next epoch
 --   reaches                       a reading comes as far as a run of the same bytes that read a frame more
 --   worn_out                      so many epochs were claimed
-use Rattle.std.proofs.Common.{◌≡◌, ◌+◌, ◌<◌, ◌≤◌, ◌⊎◌, inl, inr, ⊎_elim, ℕ, Bool, true, Option, Some, List, [], ◌∷◌, ◌++◌, length, refl, sym, ap, subst, ◌∙◌, append_assoc, arith}
+use Rattle.std.proofs.Common.{◌≡◌, ◌+◌, ◌≤◌, ◌⊎◌, inl, inr, ⊎_elim, ℕ, true, Some, List, [], ◌∷◌, ◌++◌, length, refl, sym, ap, subst, ◌∙◌, append_assoc, arith}
 use Rattle.std.specs.List.{AllByRecursion}
 use Rattle.std.proofs.lemmas.Bool.{true≢false}
-use Rattle.std.proofs.lemmas.List.{append_cancel_left, append-nil}
+use Rattle.std.proofs.lemmas.List.{append_cancel_left}
 use Rattle.std.proofs.lemmas.List.Sums.{sum_by-cons}
 use Rattle.sky_base.specs.Limits.{max_number}
 use Rattle.sky_base.specs.declared.status.Status.{Status}
@@ -13,7 +13,7 @@ use Rattle.sky_base.specs.declared.status.Status.TheVariants.{Worn}
 use Rattle.sky_outside.specs.CloudMap.{CloudMap}
 use Rattle.sky_outside.specs.declared.storage.Storage.{Ghosts}
 use Rattle.sky_outside.proofs.ToldLaws.{WhereTold-at}
-use Rattle.sky_recover.specs.Opening.{BeginsAt, Found}
+use Rattle.sky_recover.specs.Opening.{BeginsAt}
 use Rattle.sky_script.specs.Frame as frame
 use Rattle.sky_script.specs.Frame.{InFrame, OutFrame, IsInFrame, in_frame, in_frames, magic}
 use Rattle.sky_script.proofs.FrameLaws.{frame_same}
@@ -25,7 +25,7 @@ use Rattle.sky_world.specs.Opening.{IsRefusedAs}
 use Rattle.sky_world.specs.World.{IsRestart, restarts_by, tells}
 use Rattle.sky_world.proofs.FindingLaws.{both_told_at}
 use Rattle.sky_world.proofs.SiteLaws.{step_same, step_tells}
-use Rattle.bluesky.specs.Run.{AreFew, Course, EndsInRestart, IsCourse, IsReading, Ran, RanOn, RanUnopened, SinkUse, restarts_in}
+use Rattle.bluesky.specs.Run.{AreFew, Course, IsCourse, IsReading, Ran, RanOn, RanUnopened, SinkUse, restarts_in}
 use Rattle.bluesky.proofs.Comparing.{GoesOn, is_step}
 use Rattle.bluesky.proofs.Going.{restarts_then}
 use Rattle.bluesky.proofs.OneReading.{StopsAt, StopsIn, behind, in_magic, no_magic, left_is, magic_whole, not_other, stop_not_on, stops_in, told}

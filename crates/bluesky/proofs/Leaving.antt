@@ -1,7 +1,7 @@
 -- What a crash leaves of a run.
 --   opened_run                    behind the opening, before any frame
 --   leaves_within, leaves_still   within a step, and behind the last one
-use Rattle.std.proofs.Common.{◌≡◌, ◌+◌, ◌⊎◌, inl, inr, ⊎_elim, ℕ, Bool, Option, List, [], ◌∷◌, ◌++◌, sym, subst, arith}
+use Rattle.std.proofs.Common.{◌≡◌, ◌+◌, ◌⊎◌, inl, inr, ⊎_elim, ℕ, Bool, Option, List, [], ◌∷◌, ◌++◌, subst, arith}
 use Rattle.sky_outside.specs.CloudMap.{CloudMap}
 use Rattle.sky_outside.specs.Moments.{LeavesOnly, MayLeaveNow, OfPair}
 use Rattle.sky_outside.specs.declared.storage.Storage.{Ghosts}

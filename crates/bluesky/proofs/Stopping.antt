@@ -19,18 +19,17 @@ use Rattle.sky_world.specs.Finding as finding
 use Rattle.sky_world.specs.Finding.{floor_of}
 use Rattle.sky_world.specs.Meaning as meaning
 use Rattle.sky_world.specs.Meaning.{State, Scarce, session_at, start}
-use Rattle.sky_sound.specs.Kept.{Kept}
 use Rattle.sky_world.specs.Opening.{IsOfOpening, LeavesCloudAs, LeavesRefusedAs, MayRefuse}
 use Rattle.sky_world.specs.World as world
 use Rattle.sky_world.specs.World.{IsRestart, WorldView, SinkGot, SteppedDown, SessionStandsFor, restarts_by, tells}
 use Rattle.sky_world.specs.declared.sessions.Session.{Session}
 use Rattle.sky_world.specs.declared.sessions.Session.TheVariants as slot
-use Rattle.bluesky.specs.Run.{frame_limit, Course, End, FindsAtEnd, LeftInLast, IsCourse, IsOfDamage, IsReplayed, LastStep, SourceUse, SinkUse, Used, no_frame, within_frame, GaveUpTo, GaveEnding, SinkCounts, AnswerFailed, at_answer, at_end, EndsInRestart, RecordFailed, BeginFailed, EndsBy, LeavesOfRun, RanOn, end_at, restarts_in, session_bytes}
+use Rattle.bluesky.specs.Run.{frame_limit, Course, End, FindsAtEnd, LeftInLast, IsOfDamage, IsReplayed, SourceUse, SinkUse, Used, no_frame, within_frame, GaveUpTo, GaveEnding, SinkCounts, AnswerFailed, at_answer, at_end, EndsInRestart, RecordFailed, BeginFailed, EndsBy, LeavesOfRun, RanOn, end_at, restarts_in, session_bytes}
 use Rattle.bluesky.specs.Stop.{IsStop, MayStop, Opened, StepStopped, StoppedBy, Finishes}
 use Rattle.bluesky.specs.declared.frames.Stop.{Stop}
 use Rattle.bluesky.specs.declared.frames.Stop.TheVariants as stop
 use Rattle.bluesky.proofs.Going.{Going, restarts_then, session_then, so_far, so_far_then, given_so_far}
-use Rattle.bluesky.proofs.Leaving.{claims_so_far, claims_with, finds_behind, leaves_still, leaves_within}
+use Rattle.bluesky.proofs.Leaving.{claims_with, finds_behind, leaves_still, leaves_within}
 
 -- ---- the last frame, behind what was given before
 

@@ -5,8 +5,10 @@ mod sparse;
 mod text;
 
 use super::*;
-use sky_memory::{Fail as FailingCall, MemSink, MemSource};
+use sky_memory::{Fail as FailingCall, MemSink, MemSource, SureSite};
 use sky_outside::{Disk, Failed, Source};
+use sky_recover::a_site_is_found_in_one_way;
+use sky_sound::{a_settled_journal_stays, a_sound_site_has_no_checkpoint};
 use sparse::SparseSite;
 use std::mem;
 use std::process::Abort;
@@ -484,9 +486,14 @@ fn many_bytes_become_stable_at_once(rt: HostRuntime) -> Result<(), Fail> {
     Ok(())
 }
 
-/// Two laws, which nothing else calls.
+/// Laws which nothing else calls.
 #[test]
-fn laws_hold() {
+fn laws_hold(rt: HostRuntime) -> Result<(), Fail> {
     each_recording_has_one_reading();
     a_blank_site_can_be_opened();
+    a_settled_journal_stays();
+    a_sound_site_has_no_checkpoint();
+    let site = SureSite::new(rt.alloc(), 64)?;
+    a_site_is_found_in_one_way(&site);
+    Ok(())
 }

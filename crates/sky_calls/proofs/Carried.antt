@@ -16,7 +16,7 @@ use Rattle.sky_nfs.specs.declared.call.Call.TheVariants as call
 use Rattle.sky_nfs.specs.declared.call.Change.{Change}
 use Rattle.sky_nfs.specs.declared.status.NfsStatus.{NfsStatus}
 use Rattle.sky_nfs.proofs.ProcedureLemmas.{tree_after-refused}
-use Rattle.sky_calls.specs.Stable.{succeeded}
+use Rattle.sky_nfs.specs.Results.{succeeded}
 use Rattle.sky_nfs.specs.Results.{wcc, results_or}
 use Rattle.sky_nfs.specs.Procedures.Create.{created}
 use Rattle.sky_nfs.specs.Procedures.Link.{linked}

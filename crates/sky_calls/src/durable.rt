@@ -17,7 +17,7 @@ ghost use Rattle.sky_tree.specs.Memory.{takes_memory};
 ghost use Rattle.sky_calls.specs.declared.outcome.Outcome.TheVariants.{Down, Memory};
 
 use crate::outcome::Outcome;
-use crate::stable::{is_ok, is_stable};
+use crate::stable::is_stable;
 use sky_base::{Cred, Moment, NoMemory};
 use sky_entry::{entry_length, write_entry};
 use sky_journal::Journal;
@@ -189,7 +189,7 @@ impl DurableTree {
         else {
             return Outcome::Memory;
         };
-        if !is_ok(&answer) {
+        if !answer.is_ok() {
             return Outcome::Done(answer);
         }
         let room = self.journal.room();

@@ -1,5 +1,5 @@
 -- The attributes that answers carry, and results or a refusal in their place (RFC 1813 section 2.6).
-use Rattle.std.specs.Prelude.{ℕ, cond, List, Option, Some, None, Result, Ok, Err}
+use Rattle.std.specs.Prelude.{ℕ, Bool, false, cond, is_ok, List, Option, Some, None, Result, Ok, Err}
 use Rattle.sky_base.specs.declared.attr.Attr.{Attr}
 use Rattle.sky_nfs.specs.declared.answer.Answer.{Answer}
 use Rattle.sky_nfs.specs.declared.answer.Answer.TheVariants as answer
@@ -36,3 +36,16 @@ abbrev pub with_verifier : ℕ → Answer → Answer
 with_verifier verifier (answer.Write (Ok results)) = answer.Write (Ok (record results { verifier = verifier }))
 with_verifier verifier (answer.Commit (Ok results)) = answer.Commit (Ok (record results { verifier = verifier }))
 with_verifier verifier other = other
+
+-- whether it is the answer OK to a call that changes the tree
+abbrev pub succeeded : Answer → Bool
+succeeded (answer.SetAttr result) = is_ok result
+succeeded (answer.Write result) = is_ok result
+succeeded (answer.Create result) = is_ok result
+succeeded (answer.Mkdir result) = is_ok result
+succeeded (answer.Symlink result) = is_ok result
+succeeded (answer.Remove result) = is_ok result
+succeeded (answer.Rmdir result) = is_ok result
+succeeded (answer.Rename result) = is_ok result
+succeeded (answer.Link result) = is_ok result
+succeeded _ = false

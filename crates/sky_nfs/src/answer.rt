@@ -346,3 +346,26 @@ pub enum Answer {
     /// 21: the file; else the object before and after.
     Commit(Result<CommitOk, Refused<WccData>>),
 }
+
+impl Answer {
+    ghost use Rattle.std.specs.Prelude.{◌≡◌};
+    ghost use Rattle.sky_nfs.specs.Results.{succeeded};
+
+    /// Whether it is the answer OK to a call that changes files. MKNOD makes no node, and is never answered OK.
+    pub fn is_ok(&self) -> bool
+        ensures { result ≡ succeeded self.now }
+    {
+        match self {
+            Answer::SetAttr(result) => result.is_ok(),
+            Answer::Write(result) => result.is_ok(),
+            Answer::Create(result) => result.is_ok(),
+            Answer::Mkdir(result) => result.is_ok(),
+            Answer::Symlink(result) => result.is_ok(),
+            Answer::Remove(result) => result.is_ok(),
+            Answer::Rmdir(result) => result.is_ok(),
+            Answer::Rename(result) => result.is_ok(),
+            Answer::Link(result) => result.is_ok(),
+            _ => false,
+        }
+    }
+}

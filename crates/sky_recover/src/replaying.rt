@@ -3,7 +3,6 @@
 ghost use Rattle.std.specs.Prelude.{◌≡◌, ◌+◌, ◌-◌, ◌^◌, min, ℕ, List, ◌∷◌, false, true, None, IfOk, IfSome, IsErrOf, IsTrue, Ok, OnOk, if◌then◌else◌};
 ghost use Rattle.sky_nfs.specs.Calls.{is_change};
 ghost use Rattle.sky_nfs.specs.History.{is_done};
-ghost use Rattle.sky_calls.specs.Stable.{succeeded};
 ghost use Rattle.sky_nfs.specs.declared.call.Change.{Change};
 ghost use Rattle.sky_outside.specs.Count.{Counts};
 ghost use Rattle.sky_outside.specs.Moments.{OnlyLooks};
@@ -18,31 +17,13 @@ ghost use Rattle.sky_recover.specs.declared.fault.ReplayFault.TheVariants.{DiskF
 use crate::fault::{ChangeFault, ReplayFault};
 use sky_entry::{EntryFault, read_entry};
 use sky_journal::{Journal, Place};
-use sky_nfs::{Answer, Change};
+use sky_nfs::Change;
 use sky_outside::Disk;
 use sky_tree::Tree;
 use std::alloc::Global;
 
 /// The epoch in which changes are done again: neither the tree nor whether a change is answered OK depends on it.
 const EPOCH: u64 = 1;
-
-/// Whether the answer to a change is OK.
-fn is_ok(answer: &Answer) -> bool
-    ensures { result ≡ succeeded answer.now }
-{
-    match answer {
-        Answer::SetAttr(result) => result.is_ok(),
-        Answer::Write(result) => result.is_ok(),
-        Answer::Create(result) => result.is_ok(),
-        Answer::Mkdir(result) => result.is_ok(),
-        Answer::Symlink(result) => result.is_ok(),
-        Answer::Remove(result) => result.is_ok(),
-        Answer::Rmdir(result) => result.is_ok(),
-        Answer::Rename(result) => result.is_ok(),
-        Answer::Link(result) => result.is_ok(),
-        _ => false,
-    }
-}
 
 /// The change of an entry that lies at this place of the disk.
 fn change_at(alloc: Global, entry: &[u8], at: u64) -> Result<Change, ChangeFault>
@@ -66,7 +47,7 @@ fn redo_change(tree: &mut Tree, change: &Change, at: u64) -> Result<(), ChangeFa
 {
     match tree.apply(EPOCH, &change.cred, &change.call, change.moment) {
         Ok(answer) => {
-            if is_ok(&answer) {
+            if answer.is_ok() {
                 Ok(())
             } else {
                 Err(ChangeFault::Foreign { at })

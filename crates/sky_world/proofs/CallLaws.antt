@@ -1,6 +1,6 @@
 -- Laws of a call of NFS: what the program does with it, in each state for which it stands.
 use Rattle.std.specs.Prelude.{IsSome, IsTrue, ◌&&◌, nat_lt, length}
-use Rattle.std.proofs.Common.{◌≡◌, ◌⊎◌, ℕ, Bool, true, false, Option, Some, None, List, ◌++◌, refl, sym, ap, subst, ◌∙◌}
+use Rattle.std.proofs.Common.{◌≡◌, ℕ, Bool, true, false, List, refl, sym, ap, subst, ◌∙◌}
 use Rattle.sky_base.specs.declared.cred.Cred.{Cred}
 use Rattle.sky_base.specs.declared.moment.Moment.{Moment}
 use Rattle.sky_calls.proofs.Carried.{procedure_tree}

@@ -1,9 +1,9 @@
 -- Laws of what the journal's disk has: how prefixes of one history stay prefixes of it as it goes on, and how calls follow one another.
-use Rattle.std.specs.Prelude.{drop, max}
+use Rattle.std.specs.Prelude.{drop}
 use Rattle.std.proofs.Common.{◌≡◌, ℕ, ◌-◌, ◌≤◌, Option, Some, None, List, [], ◌++◌, map, take, length, refl, sym, ap, subst, ◌∙◌, arith, append_assoc, ⊎_elim, inl, inr}
 use Rattle.std.proofs.lemmas.List.{append-nil, length-append, take-append-le}
 use Rattle.sky_entry.specs.Entry.{entry_bytes}
-use Rattle.sky_journal.specs.Journal.{JournalView, IsJournal, ReadsEntries, ReadsAs, entries, first_base}
+use Rattle.sky_journal.specs.Journal.{JournalView, ReadsEntries, ReadsAs, entries, first_base}
 use Rattle.sky_journal.specs.Text.{numbered}
 use Rattle.sky_journal.proofs.Reading.{reads}
 use Rattle.sky_nfs.specs.History.{history_length, tree_after_changes, tree_at_length}
@@ -12,7 +12,7 @@ use Rattle.sky_nfs.specs.Validity.{IsValidTree}
 use Rattle.sky_nfs.specs.declared.call.Change.{Change}
 use Rattle.sky_outside.specs.CloudMap.{CloudMap}
 use Rattle.sky_outside.specs.Moments.{BesideObjects, LeavesOnly}
-use Rattle.sky_outside.specs.Told.{BothTold, WhereTold}
+use Rattle.sky_outside.specs.Told.{BothTold}
 use Rattle.sky_outside.specs.declared.storage.Storage.{Ghosts}
 use Rattle.sky_outside.proofs.MomentLaws.{LeavesOnly-disk_start, LeavesOnly-disk_then, only_read}
 use Rattle.sky_outside.proofs.ToldLaws.{WhereTold-at, WhereTold-from}

@@ -1,7 +1,7 @@
 -- Laws of what recovery finds of a disk that has the first changes of a history, beside a cloud that has the beginning of it.
 use Rattle.std.specs.Prelude.{drop, max, IsTrue}
 use Rattle.std.specs.List.{AllByRecursion}
-use Rattle.std.proofs.Common.{◌≡◌, ℕ, ◌+◌, ◌-◌, ◌<◌, ◌≤◌, Option, Some, None, Result, Ok, List, map, take, inl, inr, ⊎_elim, refl, sym, ap, subst, ◌∙◌, arith}
+use Rattle.std.proofs.Common.{◌≡◌, ℕ, ◌+◌, ◌-◌, ◌<◌, ◌≤◌, Some, Result, Ok, List, map, take, inl, inr, ⊎_elim, sym, ap, subst, ◌∙◌, arith}
 use Rattle.std.proofs.lemmas.List.{drop-map}
 use Rattle.sky_entry.specs.Entry.{entry_bytes}
 use Rattle.sky_journal.specs.Journal.{JournalView}

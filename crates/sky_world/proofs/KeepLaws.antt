@@ -16,7 +16,6 @@ use Rattle.sky_journal.specs.declared.open_area.OpenArea.{OpenArea}
 use Rattle.sky_nfs.specs.History.{IsLegalHistory, history_length}
 use Rattle.sky_nfs.specs.Tree.{Tree}
 use Rattle.sky_nfs.specs.declared.call.Change.{Change}
-use Rattle.sky_outside.specs.CloudMap.{CloudMap}
 use Rattle.sky_outside.specs.Moments.{BesideObjects, LeavesOnly, SameCloud}
 use Rattle.sky_outside.specs.Told.{BothTold, WhereTold}
 use Rattle.sky_outside.specs.declared.storage.Storage.{Ghosts}

@@ -1,5 +1,5 @@
 -- Laws of the loop that handles a payload.
-use Rattle.std.proofs.Common.{◌≡◌, ℕ, suc, ◌+◌, ◌-◌, ◌<◌, ◌≤◌, Bool, true, false, Option, List, [], ◌∷◌, ◌++◌, length, take, drop, get_or, refl, sym, ap, subst, ◌∙◌, arith}
+use Rattle.std.proofs.Common.{◌≡◌, ℕ, ◌+◌, ◌-◌, ◌<◌, ◌≤◌, Bool, true, false, Option, List, [], ◌∷◌, ◌++◌, length, take, drop, refl, sym, ap, subst, ◌∙◌, arith}
 use Rattle.std.proofs.Math.Seq.{take-add}
 use Rattle.std.proofs.lemmas.List.{append-nil, take_all, take_rest, take-append-drop, length-drop, length-take}
 use Rattle.sky_outside.specs.Told.{Given, GivenPart}
@@ -16,7 +16,6 @@ use Rattle.sky_sound.specs.Kept.{Kept}
 use Rattle.sky_world.specs.Feeding.{Feeds, FeedFails, UnderWay, WentWithin, Handled, HandledPart, HandledDown}
 use Rattle.sky_world.specs.World.{ServiceView, ServesFor, SinkGot, StandsAt}
 use Rattle.sky_world.proofs.FeedLaws.{closed, fed, feeds_one, feeds_open, under_way_begins, under_way_on, under_way_whole, under_way_closes, under_way_ends, under_way_down, frames_given, frames_given_part}
-use Rattle.sky_world.proofs.StorableLaws.{all_take}
 use Rattle.sky_world.proofs.WithinLaws.{as_step, kept_stable, under_way, within_begins, within_holds, within_now, within_went}
 
 -- ---- what is left of a payload, and a prefix of that

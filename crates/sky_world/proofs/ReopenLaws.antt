@@ -2,10 +2,10 @@
 use Rattle.std.specs.Prelude.{drop, max, replicate, is_some, ◌&&◌, nat_lt}
 use Rattle.std.proofs.Common.{◌≡◌, ℕ, ◌+◌, ◌-◌, ◌≤◌, zero, suc, Bool, true, false, Option, Some, None, Ok, List, [], ◌∷◌, ◌++◌, map, take, length, get_or, ⊎_elim, refl, sym, ap, subst, ◌∙◌, arith}
 use Rattle.std.proofs.lemmas.Bool.{and_parts, cases_Bool}
-use Rattle.std.proofs.lemmas.List.{drop-map, drop_all, length-map, length-replicate, length-take, take_all, take-take}
+use Rattle.std.proofs.lemmas.List.{drop-map, drop_all, length-replicate, take_all, take-take}
 use Rattle.sky_base.specs.declared.moment.Moment.{Moment}
 use Rattle.sky_entry.specs.Entry.{entry_bytes}
-use Rattle.sky_journal.specs.Journal.{JournalView, IsJournal, SameButSpare, StandsFor, entries, first_base}
+use Rattle.sky_journal.specs.Journal.{JournalView, IsJournal, SameButSpare, StandsFor, first_base}
 use Rattle.sky_journal.specs.Text.{numbered}
 use Rattle.sky_nfs.specs.History.{History, IsLegalHistory, history_length, last_tree, tree_after_changes, tree_at_length}
 use Rattle.sky_nfs.specs.Tree.{Tree, epoch_start}
@@ -22,8 +22,8 @@ use Rattle.sky_script.specs.Frame.{OutFrame, Opened, session_count}
 use Rattle.sky_settings.specs.declared.settings.Fields.{Fields}
 use Rattle.sky_sound.specs.Boot.{claimed}
 use Rattle.sky_sound.specs.Cloud.{HasNoCheckpoint, checkpoint_in, cloud_tree, covers_of, epoch_after}
-use Rattle.sky_sound.specs.Invariant.{AreStorable, CloudHas, DiskHas, Invariant, entries_behind, entries_between, entries_to}
-use Rattle.sky_sound.specs.Kept.{JournalState, Kept, emptied, journal_state, left_open}
+use Rattle.sky_sound.specs.Invariant.{AreStorable, CloudHas, DiskHas, Invariant, entries_between}
+use Rattle.sky_sound.specs.Kept.{JournalState, Kept, journal_state, left_open}
 use Rattle.sky_sound.specs.Recovery.{FindsSame, IsSound, history_of}
 use Rattle.sky_sound.specs.Settled.{settled}
 use Rattle.sky_sound.proofs.Claims.{checkpoint_in-claimed, epoch_after-claimed}
@@ -34,9 +34,9 @@ use Rattle.sky_world.specs.Finding.{FindsPrefix, LeavesFinding}
 use Rattle.sky_world.specs.Meaning as meaning
 use Rattle.sky_world.specs.Meaning.{State, MayBeFound, Restarts, as_known, untold, cut_to, given_up, kept_of, kept_to, opened_state, opening, opening_of, reopened, start}
 use Rattle.sky_world.specs.Opening.{opened_world, reopened_world}
-use Rattle.sky_world.specs.World.{ServesFor, Stands, WorldView, tells}
+use Rattle.sky_world.specs.World.{Stands, WorldView, tells}
 use Rattle.sky_world.proofs.DiskLaws.{holds_read, read_has, storable_to}
-use Rattle.sky_world.proofs.FindingLaws.{Begins, begins_at, both_told_at, both_told_from, finds_at, finds_same, history_now, leaves_as, sound_now}
+use Rattle.sky_world.proofs.FindingLaws.{begins_at, both_told_at, both_told_from, finds_at, finds_same, history_now, leaves_as, sound_now}
 use Rattle.sky_world.proofs.HistoryLaws.{cut_legal}
 use Rattle.sky_world.proofs.PartLaws.{between_length, between_tree, history_between}
 use Rattle.sky_world.proofs.RestartLaws.{cut_length}
@@ -327,7 +327,7 @@ module _ {S : Type 0} (g : Ghosts S) (old : WorldView) (m t : S) (state : State)
       let all : Matches v found (kept_of found) = matches_found g v a m t found is opens claims in (
         untold found told (may_be_found g v a m state.kept found volume_is size_is is) refl refl,
         stands_over g v a t found (kept_of found) all is.journal_size found.epoch state.told old.settings old.ended old.service.moment state.moment refl refl moment_is refl told_then
-        (invariant_found g v a m t found is opens claims (kept_of found) all),
+            (invariant_found g v a m t found is opens claims (kept_of found) all),
       )
 
   pub reached : (next : State) × Restarts state known (opening found ∷ []) next × Stands g (reopened_world old found) t next

@@ -1,6 +1,6 @@
 -- Laws of a restart without the journal: all areas are closed, and then the site is opened.
 use Rattle.std.specs.Prelude.{drop, is_some, ◌&&◌}
-use Rattle.std.proofs.Common.{◌≡◌, ◌⊎◌, ℕ, ◌+◌, ◌-◌, ◌≤◌, zero, suc, true, false, Option, Some, None, Ok, List, [], ◌∷◌, ◌++◌, map, take, length, inl, inr, ⊎_elim, refl, sym, ap, subst, ◌∙◌, arith}
+use Rattle.std.proofs.Common.{◌≡◌, ◌⊎◌, ℕ, ◌+◌, ◌-◌, ◌≤◌, zero, suc, true, Option, Some, None, Ok, List, [], ◌∷◌, ◌++◌, map, take, length, inl, inr, refl, sym, ap, subst, ◌∙◌, arith}
 use Rattle.std.proofs.lemmas.List.{append-nil, drop_all, length-append, length-drop, length-map, length-take, map-append, take-map, take-take, take_at}
 use Rattle.sky_entry.specs.Entry.{entry_bytes}
 use Rattle.sky_journal.specs.Journal.{JournalView, AreInOrder, ReadsEntries, ReadsAs, StandsFor, base_in, entries, first_base, numbered_in, wiped, without_newer}
@@ -8,7 +8,7 @@ use Rattle.sky_journal.specs.Text.{numbered}
 use Rattle.sky_journal.specs.declared.open_area.OpenArea.{OpenArea}
 use Rattle.sky_journal.proofs.Journals.{IsJournal-wiped}
 use Rattle.sky_journal.proofs.Reading.{reads, reads-later}
-use Rattle.sky_nfs.specs.History.{History, IsLegalHistory}
+use Rattle.sky_nfs.specs.History.{History}
 use Rattle.sky_nfs.specs.declared.call.Change.{Change}
 use Rattle.sky_outside.specs.CloudMap.{CloudMap}
 use Rattle.sky_outside.specs.Moments.{BesideObjects, LeavesOnly, SameCloud}

@@ -1,5 +1,5 @@
 -- Laws of what a crash leaves on the disk within a payload, record by record.
-use Rattle.std.proofs.Common.{◌≡◌, ℕ, ◌≤◌, Option, List, [], ◌++◌, length, take, refl, sym, ap, subst, ◌∙◌, arith, append_assoc}
+use Rattle.std.proofs.Common.{◌≡◌, ℕ, ◌≤◌, Option, List, [], ◌++◌, length, take, refl, sym, ap, subst, ◌∙◌, append_assoc}
 use Rattle.std.proofs.lemmas.List.{append-nil}
 use Rattle.sky_journal.specs.Journal.{JournalView}
 use Rattle.sky_outside.specs.CloudMap.{CloudMap}

@@ -1,5 +1,4 @@
 -- Streams and payloads of bytes: of numbers below 256.
-use Rattle.std.specs.Prelude.{List}
 use Rattle.std.specs.List.{AllByRecursion}
 use Rattle.sky_script.specs.Frame as frame
 use Rattle.sky_script.specs.Frame.{InFrame}

@@ -1,5 +1,5 @@
 -- What the journal's disk has of what is kept: the first changes of the history, up to the mark and maybe further.
-use Rattle.std.specs.Prelude.{◌≡◌, ℕ, ◌≤◌, max, List}
+use Rattle.std.specs.Prelude.{ℕ, ◌≤◌, max, List}
 use Rattle.sky_journal.specs.Journal.{ReadsAs}
 use Rattle.sky_journal.specs.Text.{numbered}
 use Rattle.sky_nfs.specs.History.{history_length}

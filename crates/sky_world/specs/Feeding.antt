@@ -5,7 +5,6 @@ use Rattle.sky_base.specs.declared.moment.Moment.{Moment}
 use Rattle.sky_entry.specs.Entry.{entry_bytes}
 use Rattle.sky_mount.specs.Mount as mount
 use Rattle.sky_mount.specs.Values.{call_of}
-use Rattle.sky_nfs.specs.History.{last_tree}
 use Rattle.sky_nfs.specs.declared.call.Call.{Call}
 use Rattle.sky_nfs.specs.declared.status.NfsStatus.TheVariants.{Jukebox}
 use Rattle.sky_outside.specs.CloudMap.{CloudMap}

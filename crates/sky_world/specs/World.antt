@@ -1,5 +1,5 @@
 -- What contracts see of the world, and which state it stands for.
-use Rattle.std.specs.Prelude.{◌≡◌, ◌⊎◌, ℕ, ◌+◌, ◌<◌, Bool, false, ◌&&◌, List, [], ◌∷◌, ◌++◌, length, slice_index_or, take, Option, IsSome, is_some}
+use Rattle.std.specs.Prelude.{◌≡◌, ◌⊎◌, ℕ, ◌<◌, Bool, false, ◌&&◌, List, [], ◌∷◌, ◌++◌, length, slice_index_or, take, Option, IsSome, is_some}
 use Rattle.sky_base.specs.declared.moment.Moment.{Moment}
 use Rattle.sky_base.specs.declared.status.Status.{Status}
 use Rattle.sky_base.specs.declared.status.Status.TheVariants.{SinkFault, JournalFault, Memory, CloudFault, Foreign, Missing, Damaged, Worn}

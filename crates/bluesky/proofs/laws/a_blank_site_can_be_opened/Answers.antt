@@ -1,4 +1,4 @@
-use Rattle.std.proofs.Common.{ℕ, arith}
+use Rattle.std.proofs.Common.{arith}
 use Rattle.sky_settings.specs.Settings.{default_fields}
 use Rattle.bluesky.proofs.laws.a_blank_site_can_be_opened.Goals as goal
 
