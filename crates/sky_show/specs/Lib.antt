@@ -1,0 +1,5 @@
+pub mod Ending
+pub mod Line
+pub mod Names
+pub mod Waiting
+pub mod Frames

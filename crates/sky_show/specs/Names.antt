@@ -1,0 +1,51 @@
+-- The names of statuses and procedures (RFC 1813).
+use Rattle.std.specs.Prelude.{ℕ, List, [], ◌∷◌, codes}
+use Rattle.sky_nfs.specs.declared.status.NfsStatus.{NfsStatus}
+use Rattle.sky_nfs.specs.declared.status.NfsStatus.TheVariants.{Perm, NoEnt, Io, Acces, Exist, NotDir, IsDir, Inval, FBig, NoSpc, MLink, NameTooLong, NotEmpty, Stale, BadHandle, NotSync, BadCookie, NotSupp, TooSmall, ServerFault, BadType, Jukebox}
+
+-- the name of a refusal (section 2.6)
+abbrev pub name_of : NfsStatus → List ℕ
+name_of Perm = codes "NFS3ERR_PERM"
+name_of NoEnt = codes "NFS3ERR_NOENT"
+name_of Io = codes "NFS3ERR_IO"
+name_of Acces = codes "NFS3ERR_ACCES"
+name_of Exist = codes "NFS3ERR_EXIST"
+name_of NotDir = codes "NFS3ERR_NOTDIR"
+name_of IsDir = codes "NFS3ERR_ISDIR"
+name_of Inval = codes "NFS3ERR_INVAL"
+name_of FBig = codes "NFS3ERR_FBIG"
+name_of NoSpc = codes "NFS3ERR_NOSPC"
+name_of MLink = codes "NFS3ERR_MLINK"
+name_of NameTooLong = codes "NFS3ERR_NAMETOOLONG"
+name_of NotEmpty = codes "NFS3ERR_NOTEMPTY"
+name_of Stale = codes "NFS3ERR_STALE"
+name_of BadHandle = codes "NFS3ERR_BADHANDLE"
+name_of NotSync = codes "NFS3ERR_NOT_SYNC"
+name_of BadCookie = codes "NFS3ERR_BAD_COOKIE"
+name_of NotSupp = codes "NFS3ERR_NOTSUPP"
+name_of TooSmall = codes "NFS3ERR_TOOSMALL"
+name_of ServerFault = codes "NFS3ERR_SERVERFAULT"
+name_of BadType = codes "NFS3ERR_BADTYPE"
+name_of Jukebox = codes "NFS3ERR_JUKEBOX"
+
+-- the procedures of NFS version 3, in the order of their numbers (section 3)
+abbrev pub nfs_procedures : List (List ℕ)
+nfs_procedures =
+    codes "NULL" ∷ codes "GETATTR" ∷ codes "SETATTR" ∷ codes "LOOKUP" ∷ codes "ACCESS" ∷ codes "READLINK" ∷ codes "READ"
+    ∷ codes "WRITE" ∷ codes "CREATE" ∷ codes "MKDIR" ∷ codes "SYMLINK" ∷ codes "MKNOD" ∷ codes "REMOVE" ∷ codes "RMDIR"
+    ∷ codes "RENAME" ∷ codes "LINK" ∷ codes "READDIR" ∷ codes "READDIRPLUS" ∷ codes "FSSTAT" ∷ codes "FSINFO"
+    ∷ codes "PATHCONF" ∷ codes "COMMIT" ∷ []
+
+-- the procedures of MOUNT version 3, in the order of their numbers (section 5.2)
+abbrev pub mount_procedures : List (List ℕ)
+mount_procedures = codes "NULL" ∷ codes "MNT" ∷ codes "DUMP" ∷ codes "UMNT" ∷ codes "UMNTALL" ∷ codes "EXPORT" ∷ []
+
+-- accept_stat, in the order of the numbers (RFC 5531 section 9)
+abbrev pub accept_stats : List (List ℕ)
+accept_stats = codes "SUCCESS" ∷ codes "PROG_UNAVAIL" ∷ codes "PROG_MISMATCH" ∷ codes "PROC_UNAVAIL" ∷ codes "GARBAGE_ARGS" ∷ codes "SYSTEM_ERR" ∷ []
+
+-- auth_stat, in the order of the numbers, as far as the standard itself has them (RFC 5531 section 9)
+abbrev pub auth_stats : List (List ℕ)
+auth_stats =
+    codes "AUTH_OK" ∷ codes "AUTH_BADCRED" ∷ codes "AUTH_REJECTEDCRED" ∷ codes "AUTH_BADVERF" ∷ codes "AUTH_REJECTEDVERF"
+    ∷ codes "AUTH_TOOWEAK" ∷ codes "AUTH_INVALIDRESP" ∷ codes "AUTH_FAILED" ∷ []
