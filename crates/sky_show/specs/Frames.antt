@@ -1,9 +1,9 @@
--- Frames of answers, and lines for them.
-use Rattle.std.specs.Prelude.{◌≡◌, ℕ, List, [], ◌∷◌, ◌++◌, Option}
+-- Frames of answers.
+use Rattle.std.specs.Prelude.{◌≡◌, ◌<◌, ℕ, List, Option}
 use Rattle.sky_outside.specs.declared.whole.FillFault.{FillFault}
 use Rattle.sky_outside.specs.declared.whole.FillFault.TheVariants as fill
 use Rattle.sky_outside.specs.Told.{Had}
-use Rattle.sky_script.specs.Frame.{Parts}
+use Rattle.sky_script.specs.Frame.{Parts, header, payload_limit}
 use Rattle.sky_show.specs.declared.answers.Answer.{Answer}
 use Rattle.sky_show.specs.declared.answers.AnswerFault.{AnswerFault}
 use Rattle.sky_show.specs.declared.answers.AnswerFault.TheVariants as fault
@@ -20,3 +20,11 @@ fault_of fill.Broken = fault.SourceFault
 -- some bytes were read
 abbrev pub HadSome : Option (List ℕ) → Option (List ℕ) → Type 0
 HadSome before now = (taken : List ℕ) × Had before now taken
+
+-- a header of a frame whose payload would be too long
+pub record IsTooLong (taken : List ℕ) : Type 0 where
+  pub kind : ℕ
+  pub session : ℕ
+  pub len : ℕ
+  pub long : payload_limit < len
+  pub header_is : taken ≡ header kind session len

@@ -3,3 +3,7 @@ pub mod Line
 pub mod Names
 pub mod Waiting
 pub mod Frames
+pub mod Shown
+pub use Rattle.sky_outside.specs.Count
+pub use Rattle.sky_outside.specs.Told
+pub use Rattle.sky_script.specs.Frame

@@ -1,10 +1,10 @@
 //! Frames of answers, read from a source.
 
-ghost use Rattle.std.specs.Prelude.{◌≡◌, ◌≤◌, take, length, vec_len, IfOk, OnOk, OnErr, IsErrOf};
+ghost use Rattle.std.specs.Prelude.{◌≡◌, ◌≤◌, ℕ, List, [], take, length, vec_len, IfOk, OnOk, OnErr, IsErrOf};
 ghost use Rattle.sky_outside.specs.Count.{Counts};
-ghost use Rattle.sky_outside.specs.Told.{Had};
+ghost use Rattle.sky_outside.specs.Told.{Had, WhereTold};
 ghost use Rattle.sky_script.specs.Frame.{frame, header as encoded_header, payload_limit};
-ghost use Rattle.sky_show.specs.Frames.{fault_of, parts_of, HadSome};
+ghost use Rattle.sky_show.specs.Frames.{fault_of, parts_of, HadSome, IsTooLong};
 
 use byteorder::{BigEndian, ByteOrder};
 use sky_base::NoMemory;
@@ -82,6 +82,7 @@ fn fill_some<S: Source>(source: &mut S, buf: &mut [u8], len: usize) -> Result<()
     requires { len ≤ length buf.old }
     ensures ok { OnOk result (Had (S.left source.old) (S.left source.new) (take len buf.new)) }
     ensures partly { OnErr result (HadSome (S.left source.old) (S.left source.new)) }
+    ensures early { IsErrOf result FillFault.Early → WhereTold (S.left source.new) (λ rest. rest ≡ []) }
     ensures cause { Counts (S.faults source.old) (S.faults source.new) (IsErrOf result FillFault.Broken) }
 {
     fill(source, &mut buf[..len])
@@ -95,7 +96,9 @@ pub fn read_answer<'a, S: Source>(
 ) -> Result<Answer<'a>, AnswerFault>
     ensures ok { IfOk result (λ answer. Had (S.left source.old) (S.left source.new) (frame (parts_of answer))) }
     ensures within { IfOk result (λ answer. length answer.payload.now ≤ payload_limit) }
+    ensures malformed { IsErrOf result AnswerFault.Malformed → (taken : List ℕ) × IsTooLong taken × Had (S.left source.old) (S.left source.new) taken }
     ensures partly { OnErr result (HadSome (S.left source.old) (S.left source.new)) }
+    ensures early { IsErrOf result AnswerFault.Early → WhereTold (S.left source.new) (λ rest. rest ≡ []) }
     ensures cause { Counts (S.faults source.old) (S.faults source.new) (IsErrOf result AnswerFault.SourceFault) }
 {
     let mut bytes = [0; 9];

@@ -1,9 +1,10 @@
 //! The calls of a recording.
 
-ghost use Rattle.std.specs.Prelude.{◌≡◌, OnErr, IsErr, IsErrOf, IfErr};
+ghost use Rattle.std.specs.Prelude.{IsErrOf, IfErr};
 ghost use Rattle.sky_outside.specs.Count.{Counts};
 ghost use Rattle.sky_script.specs.Frame.{IsInFrame};
 ghost use Rattle.sky_script.specs.Values.{frame_of};
+ghost use Rattle.sky_show.specs.Ending.{IsOfLine};
 
 use crate::called::Called;
 use crate::ending::Ending;
@@ -55,7 +56,8 @@ impl Calls {
     /// The calls of a recording, of which what it begins with is read. `Memory` where there is none for the buffers, and
     /// `RecordingFault` where the read failed. A recording that begins with something else has no calls.
     pub fn begin<S: Source>(alloc: Global, recording: &mut S) -> Result<Calls, Ending>
-        ensures cause { Counts (S.faults recording.old) (S.faults recording.new) (IsErrOf result Ending.RecordingFault) }
+        ensures endings { IfErr result IsOfLine }
+    ensures cause { Counts (S.faults recording.old) (S.faults recording.new) (IsErrOf result Ending.RecordingFault) }
     {
         let mut bytes = [0; 8];
         let over = match fill(recording, &mut bytes) {
@@ -77,7 +79,8 @@ impl Calls {
 
     /// Reads the next frame of the recording, and adds its calls to those that wait.
     fn read_on<S: Source>(&mut self, recording: &mut S) -> Result<(), Ending>
-        ensures cause { Counts (S.faults recording.old) (S.faults recording.new) (IsErrOf result Ending.RecordingFault) }
+        ensures endings { IfErr result IsOfLine }
+    ensures cause { Counts (S.faults recording.old) (S.faults recording.new) (IsErrOf result Ending.RecordingFault) }
     {
         match read_frame(recording, &mut self.buf) {
             Ok(frame) => {
@@ -105,7 +108,8 @@ impl Calls {
         session: u32,
         xid: u32,
     ) -> Result<Option<Called>, Ending>
-        ensures cause { Counts (S.faults recording.old) (S.faults recording.new) (IsErrOf result Ending.RecordingFault) }
+        ensures endings { IfErr result IsOfLine }
+    ensures cause { Counts (S.faults recording.old) (S.faults recording.new) (IsErrOf result Ending.RecordingFault) }
     {
         for _ in 0..FRAME_LIMIT {
             let found = self.waiting.answer(session, xid);

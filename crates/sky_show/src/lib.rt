@@ -2,11 +2,12 @@
 //! a reply answers.
 #![tactic(auto)]
 
+mod answered;
 mod answers;
 mod called;
 mod calls;
 mod ending;
-mod frames;
+mod head;
 mod line;
 mod mounts;
 mod outcomes;
@@ -14,10 +15,10 @@ mod parts;
 mod procedures;
 mod reply;
 mod results;
-mod show;
+mod showing;
 mod statuses;
 mod streams;
 mod waiting;
 
 pub use ending::Ending;
-pub use show::show;
+pub use showing::show;

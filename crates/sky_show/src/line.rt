@@ -1,7 +1,7 @@
 //! Lines.
 
-ghost use Rattle.std.specs.Prelude.{◌≡◌, ◌++◌, ◌∷◌, [], IfOk, map};
-ghost use Rattle.sky_show.specs.Line.{IsLine, in_line};
+ghost use Rattle.std.specs.Prelude.{◌≡◌, ◌++◌, IfOk, OnOk, map};
+ghost use Rattle.sky_show.specs.Line.{IsLine, in_line, line};
 
 use sky_base::NoMemory;
 use std::alloc::Global;
@@ -16,15 +16,24 @@ fn within_line(byte: u8) -> u8
     if byte == LINE_END { b' ' } else { byte }
 }
 
-/// The line of a text: the text, where a space stands for each line end, and one line end behind it.
-pub fn line_of(alloc: Global, text: &str) -> Result<Vec<u8>, NoMemory>
-    ensures text { IfOk result (λ line. line.items ≡ map in_line text.now ++ 10 ∷ []) }
-    ensures one { IfOk result (λ line. IsLine line.items) }
+/// Adds a text to a line, with a space in place of each line end.
+fn add_text(line: &mut Vec<u8>, text: &str) -> Result<(), NoMemory>
+    ensures { OnOk result (line.new.items ≡ line.old.items ++ map in_line text.now) }
 {
-    let mut line = Vec::with_capacity(alloc, text.len() + 1)?;
     for byte in text.as_bytes() {
         line.push(within_line(*byte))?;
     }
+    Ok(())
+}
+
+/// The line of a text in two parts: the text, where a space stands for each line end, and one line end behind it.
+pub fn line_of(alloc: Global, head: &str, text: &str) -> Result<Vec<u8>, NoMemory>
+    ensures text { IfOk result (λ made. made.items ≡ line (head.now ++ text.now)) }
+    ensures one { IfOk result (λ made. IsLine made.items) }
+{
+    let mut line = Vec::new(alloc);
+    add_text(&mut line, head)?;
+    add_text(&mut line, text)?;
     line.push(LINE_END)?;
     Ok(line)
 }

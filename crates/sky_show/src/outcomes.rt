@@ -25,7 +25,7 @@ pub struct Outcome<'a> {
 #[derive(Clone, Copy)]
 pub enum Told<'a> {
     /// 3: the proxy closed the session.
-    Closed(u32),
+    Closed,
     /// 10 to 15: what a step of the log came to.
     Stepped(Outcome<'a>),
     /// 16: what the proxy has.
@@ -41,8 +41,8 @@ pub enum Told<'a> {
         status: u32,
         place: u64,
     },
-    /// Nothing that can be read.
-    Unread,
+    /// Nothing that can be read: so many bytes of a frame that is of no known kind, or not of its kind's format.
+    Unread(usize),
 }
 
 /// Takes what the proxy has, as eight numbers.
@@ -109,7 +109,7 @@ fn read_frame<'a>(answer: Answer<'a>) -> Result<Told<'a>, XdrFault> {
     match answer.kind {
         3 => {
             reader.end()?;
-            Ok(Told::Closed(answer.session))
+            Ok(Told::Closed)
         }
         10..=15 => Ok(Told::Stepped(take_outcome(answer.kind, &mut reader)?)),
         16 => {
@@ -135,20 +135,7 @@ fn read_frame<'a>(answer: Answer<'a>) -> Result<Told<'a>, XdrFault> {
 pub fn told_by<'a>(answer: Answer<'a>) -> Told<'a> {
     match read_frame(answer) {
         Ok(told) => told,
-        Err(_) => Told::Unread,
-    }
-}
-
-/// The name of a step.
-fn step_name(kind: u8) -> &'static str {
-    match kind {
-        10 => "seal",
-        11 => "upload",
-        12 => "evict",
-        13 => "clean",
-        14 => "merge",
-        15 => "collect",
-        _ => "step",
+        Err(_) => Told::Unread(answer.payload.len()),
     }
 }
 
@@ -190,7 +177,7 @@ fn write_part<W: fmt::Write>(what: &str, number: u64, f: &mut fmt::Formatter<W>)
 impl fmt::Display for Outcome<'_> {
     fn fmt<W: fmt::Write>(&self, f: &mut fmt::Formatter<W>) -> fmt::Result {
         let (what, first, second) = words_of(self.kind, self.code);
-        write!(f, "{}: {what}", step_name(self.kind))?;
+        f.write_str(what)?;
         write_part(first, self.first, f)?;
         write_part(second, self.second, f)?;
         match self.name {
@@ -226,9 +213,9 @@ fn write_ending<W: fmt::Write>(
     f: &mut fmt::Formatter<W>,
 ) -> fmt::Result {
     match status {
-        2 => write!(f, "end: status 2 Malformed at byte {place} of the recording"),
-        9 if place > 0 => write!(f, "end: status 9 Foreign at byte {place} of the journal"),
-        _ => write!(f, "end: status {status} {}", status_word(status)),
+        2 => write!(f, "status 2 Malformed at byte {place} of the recording"),
+        9 if place > 0 => write!(f, "status 9 Foreign at byte {place} of the journal"),
+        _ => write!(f, "status {status} {}", status_word(status)),
     }
 }
 
@@ -236,7 +223,7 @@ fn write_ending<W: fmt::Write>(
 fn write_stats<W: fmt::Write>(stats: Stats, f: &mut fmt::Formatter<W>) -> fmt::Result {
     write!(
         f,
-        "numbers: {} changes, {} of them stable, epoch {}, {} covered by the last checkpoint",
+        "{} changes, {} of them stable, epoch {}, {} covered by the last checkpoint",
         stats.history, stats.mark, stats.epoch, stats.covers
     )?;
     write!(
@@ -249,7 +236,7 @@ fn write_stats<W: fmt::Write>(stats: Stats, f: &mut fmt::Formatter<W>) -> fmt::R
 impl fmt::Display for Told<'_> {
     fn fmt<W: fmt::Write>(&self, f: &mut fmt::Formatter<W>) -> fmt::Result {
         match *self {
-            Told::Closed(session) => write!(f, "session {session} closed by the proxy"),
+            Told::Closed => f.write_str("closed by the proxy"),
             Told::Stepped(outcome) => write!(f, "{outcome}"),
             Told::Counted(stats) => write_stats(stats, f),
             Told::Opened {
@@ -258,14 +245,14 @@ impl fmt::Display for Told<'_> {
                 journal: true,
             } => write!(
                 f,
-                "opened: epoch {epoch}, {changes} changes found, some of them in the journal"
+                "epoch {epoch}, {changes} changes found, some of them in the journal"
             ),
             Told::Opened { epoch, changes, .. } => write!(
                 f,
-                "opened: epoch {epoch}, {changes} changes found, none of them in the journal"
+                "epoch {epoch}, {changes} changes found, none of them in the journal"
             ),
             Told::Ended { status, place } => write_ending(status, place, f),
-            Told::Unread => f.write_str("can't be read"),
+            Told::Unread(count) => write!(f, "{count} bytes that can't be read"),
         }
     }
 }

@@ -1,6 +1,6 @@
 //! The names of statuses.
 
-ghost use Rattle.std.specs.Prelude.{◌≡◌, ◌≢◌, IfSome, IsNone};
+ghost use Rattle.std.specs.Prelude.{◌≡◌, ◌≢◌, ◌<◌, IfSome, IsNone};
 ghost use Rattle.sky_nfs.specs.NfsStatus.{number_of};
 ghost use Rattle.sky_nfs.specs.declared.status.NfsStatus.{NfsStatus};
 ghost use Rattle.sky_show.specs.Names.{name_of};

@@ -1,18 +1,14 @@
-//! One frame of answers as text.
+//! Replies as text.
 
-use crate::answers::Answer;
 use crate::called::{Called, MOUNT, NFS};
 use crate::mounts::read_mount_results;
-use crate::outcomes::{Told, told_by};
 use crate::reply::{Outcome, Reply};
 use crate::results::read_results;
 use std::fmt;
 
-/// A reply, and what the call called that it answers. As text: the session, the call's number, the procedure, the status and what the results
-/// mainly say.
+/// A reply, and what the call called that it answers. As text: the call's number, the procedure, the status and what the results mainly say.
 #[derive(Clone, Copy)]
 pub struct Answered<'a> {
-    pub session: u32,
     pub reply: Reply<'a>,
     /// `None` where the recording has no such call.
     pub called: Option<Called>,
@@ -51,7 +47,7 @@ fn write_results<W: fmt::Write>(
 
 impl fmt::Display for Answered<'_> {
     fn fmt<W: fmt::Write>(&self, f: &mut fmt::Formatter<W>) -> fmt::Result {
-        write!(f, "session {} xid {} ", self.session, self.reply.xid)?;
+        write!(f, "xid {} ", self.reply.xid)?;
         match (self.called, self.reply.outcome) {
             (Some(called), Outcome::Success(bytes)) => {
                 write!(f, "{called} ")?;
@@ -59,25 +55,6 @@ impl fmt::Display for Answered<'_> {
             }
             (Some(called), outcome) => write!(f, "{called} {outcome}"),
             (None, outcome) => write!(f, "answers no call of the recording: {outcome}"),
-        }
-    }
-}
-
-/// A frame that is no reply to a call, or that can't be read. As text: what it tells, or its kind, session and length.
-#[derive(Clone, Copy)]
-pub struct Other<'a>(pub Answer<'a>);
-
-impl fmt::Display for Other<'_> {
-    fn fmt<W: fmt::Write>(&self, f: &mut fmt::Formatter<W>) -> fmt::Result {
-        match told_by(self.0) {
-            Told::Unread => write!(
-                f,
-                "a frame that can't be read: kind {}, session {}, {} bytes",
-                self.0.kind,
-                self.0.session,
-                self.0.payload.len()
-            ),
-            told => write!(f, "{told}"),
         }
     }
 }
