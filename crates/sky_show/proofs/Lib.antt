@@ -1,1 +1,4 @@
 mod Headers
+mod Lines
+mod Faults
+mod Shows

@@ -1,7 +1,7 @@
 //! Lines.
 
 ghost use Rattle.std.specs.Prelude.{◌≡◌, ◌++◌, IfOk, OnOk, map};
-ghost use Rattle.sky_show.specs.Line.{IsLine, in_line, line};
+ghost use Rattle.sky_show.specs.Line.{in_line, line};
 
 use sky_base::NoMemory;
 use std::alloc::Global;
@@ -28,8 +28,7 @@ fn add_text(line: &mut Vec<u8>, text: &str) -> Result<(), NoMemory>
 
 /// The line of a text in two parts: the text, where a space stands for each line end, and one line end behind it.
 pub fn line_of(alloc: Global, head: &str, text: &str) -> Result<Vec<u8>, NoMemory>
-    ensures text { IfOk result (λ made. made.items ≡ line (head.now ++ text.now)) }
-    ensures one { IfOk result (λ made. IsLine made.items) }
+    ensures { IfOk result (λ made. made.items ≡ line (head.now ++ text.now)) }
 {
     let mut line = Vec::new(alloc);
     add_text(&mut line, head)?;
