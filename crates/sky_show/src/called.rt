@@ -1,5 +1,8 @@
 //! What a call called, as far as its line needs it.
 
+ghost use Rattle.std.specs.Prelude.{◌≡◌};
+ghost use Rattle.sky_show.specs.Waiting.{called_in};
+
 use crate::procedures::{mount_procedure, nfs_procedure};
 use sky_rpc::{RpcRefusal, read_call};
 use std::fmt;
@@ -41,8 +44,11 @@ impl Called {
 }
 
 /// The number of a call and what it called, or nothing where the bytes are no call, after which the proxy closes the session.
-pub fn read_called(record: &[u8]) -> Option<(u32, Called)> {
-    match read_call(record) {
+#[tactic(auto, unfolding(crate::specs::Waiting::called_in))]
+pub fn read_called(message: &[u8]) -> Option<(u32, Called)>
+    ensures { result ≡ called_in message.now }
+{
+    match read_call(message) {
         Ok(call) => Some((
             call.xid,
             Called::Procedure {

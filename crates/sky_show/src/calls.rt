@@ -1,10 +1,11 @@
 //! The calls of a recording.
 
-ghost use Rattle.std.specs.Prelude.{IsErrOf, IfErr};
+ghost use Rattle.std.specs.Prelude.{◌≡◌, [], IfOk, OnOk, IsErrOf, IfErr};
 ghost use Rattle.sky_outside.specs.Count.{Counts};
 ghost use Rattle.sky_script.specs.Frame.{IsInFrame};
 ghost use Rattle.sky_script.specs.Values.{frame_of};
 ghost use Rattle.sky_show.specs.Ending.{IsOfLine};
+ghost use Rattle.sky_show.specs.Waiting.{HasMore, Looked};
 
 use crate::called::Called;
 use crate::ending::Ending;
@@ -40,6 +41,7 @@ fn take_frame(
     waiting: &mut Waiting,
 ) -> Result<bool, NoMemory>
     requires { IsInFrame (frame_of frame.now) }
+    ensures { OnOk result (HasMore waiting.old waiting.new) }
 {
     match *frame {
         Frame::Begin { session } => streams.begin(alloc, session)?,
@@ -56,6 +58,7 @@ impl Calls {
     /// The calls of a recording, of which what it begins with is read. `Memory` where there is none for the buffers, and
     /// `RecordingFault` where the read failed. A recording that begins with something else has no calls.
     pub fn begin<S: Source>(alloc: Global, recording: &mut S) -> Result<Calls, Ending>
+        ensures none { IfOk result (λ calls. calls.waiting ≡ []) }
         ensures endings { IfErr result IsOfLine }
     ensures cause { Counts (S.faults recording.old) (S.faults recording.new) (IsErrOf result Ending.RecordingFault) }
     {
@@ -79,6 +82,7 @@ impl Calls {
 
     /// Reads the next frame of the recording, and adds its calls to those that wait.
     fn read_on<S: Source>(&mut self, recording: &mut S) -> Result<(), Ending>
+        ensures more { OnOk result (HasMore self.old.waiting self.new.waiting) }
         ensures endings { IfErr result IsOfLine }
     ensures cause { Counts (S.faults recording.old) (S.faults recording.new) (IsErrOf result Ending.RecordingFault) }
     {
@@ -108,6 +112,7 @@ impl Calls {
         session: u32,
         xid: u32,
     ) -> Result<Option<Called>, Ending>
+        ensures looked { IfOk result (λ found. Looked session xid self.old.waiting found self.new.waiting) }
         ensures endings { IfErr result IsOfLine }
     ensures cause { Counts (S.faults recording.old) (S.faults recording.new) (IsErrOf result Ending.RecordingFault) }
     {
@@ -118,6 +123,6 @@ impl Calls {
             }
             self.read_on(recording)?;
         }
-        Ok(None)
+        Ok(self.waiting.answer(session, xid))
     }
 }

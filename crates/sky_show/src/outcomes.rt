@@ -148,7 +148,7 @@ fn words_of(kind: u8, code: u32) -> (&'static str, &'static str, &'static str) {
         (11, 0) => ("Put", "objects left", ""),
         (11, 1) => ("Idle", "", ""),
         (11, 3) => ("Completed", "covers", ""),
-        (12, 0) => ("Evicted", "evicted", "clean residents left"),
+        (12, 0) => ("Evicted", "residents", "clean residents left"),
         (13, 0) => ("Chosen", "run", "victims"),
         (13, 2) => ("Waiting", "run", ""),
         (13, 3) => ("Copied", "items", ""),

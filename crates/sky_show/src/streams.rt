@@ -1,8 +1,9 @@
 //! The streams of a recording's sessions.
 
-ghost use Rattle.std.specs.Prelude.{◌≡◌, ◌<◌, ◌≤◌, IfOk, IfSome, length, vec_len};
+ghost use Rattle.std.specs.Prelude.{◌≡◌, ◌<◌, ◌≤◌, ◌++◌, is_some, IfOk, OnOk, IfSome, length, vec_len};
 ghost use Rattle.sky_record.specs.Stream.{IsOpen};
 ghost use Rattle.sky_script.specs.Frame.{session_count};
+ghost use Rattle.sky_show.specs.Waiting.{HasMore, called_in, calls_of};
 
 use crate::called::read_called;
 use crate::waiting::{Call, Waiting};
@@ -22,8 +23,11 @@ pub struct Streams {
 }
 
 /// Adds the call that a record is to those that wait. Says whether it is one: the session is closed where it isn't.
-fn add_call(session: u32, record: &[u8], waiting: &mut Waiting) -> Result<bool, NoMemory> {
-    match read_called(record) {
+fn add_call(session: u32, message: &[u8], waiting: &mut Waiting) -> Result<bool, NoMemory>
+    ensures added { OnOk result (waiting.new ≡ waiting.old ++ calls_of session (called_in message.now)) }
+    ensures open { IfOk result (λ is_open. is_open ≡ is_some (called_in message.now)) }
+{
+    match read_called(message) {
         Some((xid, called)) => {
             waiting.add(Call {
                 session,
@@ -47,6 +51,7 @@ fn feed_once(
     requires ready { IsOpen assembler.old.progress }
     ensures taken { IfOk result (λ fed. IfSome fed (λ taken. taken ≤ length piece.now)) }
     ensures some { 0 < length piece.now → IfOk result (λ fed. IfSome fed (λ taken. 0 < taken)) }
+    ensures more { OnOk result (HasMore waiting.old waiting.new) }
 {
     let (taken, fed) = assembler.feed(piece);
     match fed {
@@ -66,7 +71,9 @@ fn feed_whole(
     session: u32,
     piece: &[u8],
     waiting: &mut Waiting,
-) -> Result<bool, NoMemory> {
+) -> Result<bool, NoMemory>
+    ensures more { OnOk result (HasMore waiting.old waiting.new) }
+{
     let mut at = 0;
     while at < piece.len() && assembler.is_ready() {
         match feed_once(assembler, session, &piece[at..], waiting)? {
@@ -118,6 +125,7 @@ impl Streams {
         waiting: &mut Waiting,
     ) -> Result<(), NoMemory>
         requires { session < session_count }
+        ensures more { OnOk result (HasMore waiting.old waiting.new) }
     {
         let Some(mut assembler) = mem::replace(&mut self.streams[session as usize], None) else {
             return Ok(());
