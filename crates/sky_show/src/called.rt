@@ -57,8 +57,10 @@ pub fn read_called(message: &[u8]) -> Option<(u32, Called)>
                 procedure: call.procedure,
             },
         )),
-        Err(RpcRefusal::BadVersion { xid } | RpcRefusal::BadCred { xid }) =>
-            Some((xid, Called::Denied)),
+        Err(RpcRefusal::BadVersion { xid } | RpcRefusal::BadCred { xid }) => Some((
+            xid,
+            Called::Denied,
+        )),
         Err(RpcRefusal::NotCall) => None,
     }
 }

@@ -60,7 +60,7 @@ impl Calls {
     pub fn begin<S: Source>(alloc: Global, recording: &mut S) -> Result<Calls, Ending>
         ensures none { IfOk result (λ calls. calls.waiting ≡ []) }
         ensures endings { IfErr result IsOfLine }
-    ensures cause { Counts (S.faults recording.old) (S.faults recording.new) (IsErrOf result Ending.RecordingFault) }
+        ensures cause { Counts (S.faults recording.old) (S.faults recording.new) (IsErrOf result Ending.RecordingFault) }
     {
         let mut bytes = [0; 8];
         let over = match fill(recording, &mut bytes) {
@@ -84,7 +84,7 @@ impl Calls {
     fn read_on<S: Source>(&mut self, recording: &mut S) -> Result<(), Ending>
         ensures more { OnOk result (HasMore self.old.waiting self.new.waiting) }
         ensures endings { IfErr result IsOfLine }
-    ensures cause { Counts (S.faults recording.old) (S.faults recording.new) (IsErrOf result Ending.RecordingFault) }
+        ensures cause { Counts (S.faults recording.old) (S.faults recording.new) (IsErrOf result Ending.RecordingFault) }
     {
         match read_frame(recording, &mut self.buf) {
             Ok(frame) => {
@@ -114,7 +114,7 @@ impl Calls {
     ) -> Result<Option<Called>, Ending>
         ensures looked { IfOk result (λ found. Looked session xid self.old.waiting found self.new.waiting) }
         ensures endings { IfErr result IsOfLine }
-    ensures cause { Counts (S.faults recording.old) (S.faults recording.new) (IsErrOf result Ending.RecordingFault) }
+        ensures cause { Counts (S.faults recording.old) (S.faults recording.new) (IsErrOf result Ending.RecordingFault) }
     {
         for _ in 0..FRAME_LIMIT {
             let found = self.waiting.answer(session, xid);

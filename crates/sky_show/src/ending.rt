@@ -64,8 +64,7 @@ fn text_of(ending: Ending) -> &'static str {
         Ending::Early => {
             "standard input stops before the frame that ends the answers. See that all of it is there."
         }
-        Ending::AnswersFault =>
-            "standard input, which has the answers, could not be read further.",
+        Ending::AnswersFault => "standard input, which has the answers, could not be read further.",
         Ending::SinkFault =>
             "standard output could not be written. See that it has room and somebody who reads it.",
         Ending::NoRecording =>

@@ -33,9 +33,7 @@ fn take_mounted<'a>(reader: &mut Reader<'a>) -> Result<MountResults<'a>, XdrFaul
 /// What the results of EXPORT say.
 fn take_exports<'a>(reader: &mut Reader<'a>) -> Result<MountResults<'a>, XdrFault> {
     if reader.take_bool()? {
-        Ok(MountResults::Exports(Some(
-            reader.take_opaque(MAX_PATH_BYTES)?,
-        )))
+        Ok(MountResults::Exports(Some(reader.take_opaque(MAX_PATH_BYTES)?)))
     } else {
         Ok(MountResults::Exports(None))
     }

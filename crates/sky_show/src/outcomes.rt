@@ -207,11 +207,7 @@ fn status_word(status: u32) -> &'static str {
 }
 
 /// Writes how the run ended.
-fn write_ending<W: fmt::Write>(
-    status: u32,
-    place: u64,
-    f: &mut fmt::Formatter<W>,
-) -> fmt::Result {
+fn write_ending<W: fmt::Write>(status: u32, place: u64, f: &mut fmt::Formatter<W>) -> fmt::Result {
     match status {
         2 => write!(f, "status 2 Malformed at byte {place} of the recording"),
         9 if place > 0 => write!(f, "status 9 Foreign at byte {place} of the journal"),

@@ -51,10 +51,7 @@ fn take_accepted<'a>(reader: &mut Reader<'a>) -> Result<Outcome<'a>, XdrFault> {
     reader.take_opaque(MAX_AUTH_BYTES)?;
     match reader.take_u32()? {
         0 => Ok(Outcome::Success(reader.rest())),
-        2 => Ok(Outcome::ProgMismatch(
-            reader.take_u32()?,
-            reader.take_u32()?,
-        )),
+        2 => Ok(Outcome::ProgMismatch(reader.take_u32()?, reader.take_u32()?)),
         stat => Ok(Outcome::NotDone(stat)),
     }
 }
@@ -62,10 +59,7 @@ fn take_accepted<'a>(reader: &mut Reader<'a>) -> Result<Outcome<'a>, XdrFault> {
 /// Takes what stands behind MSG_DENIED. `BadBool` where the status is neither RPC_MISMATCH nor AUTH_ERROR.
 fn take_denied<'a>(reader: &mut Reader<'a>) -> Result<Outcome<'a>, XdrFault> {
     match reader.take_u32()? {
-        0 => Ok(Outcome::RpcMismatch(
-            reader.take_u32()?,
-            reader.take_u32()?,
-        )),
+        0 => Ok(Outcome::RpcMismatch(reader.take_u32()?, reader.take_u32()?)),
         1 => Ok(Outcome::AuthError(reader.take_u32()?)),
         _ => Err(XdrFault::BadBool),
     }
@@ -135,10 +129,11 @@ impl fmt::Display for Outcome<'_> {
                 Some(name) => f.write_str(name),
                 None => write!(f, "accept_stat {stat}"),
             },
-            Outcome::ProgMismatch(low, high) =>
-                write!(f, "PROG_MISMATCH versions {low} to {high}"),
-            Outcome::RpcMismatch(low, high) =>
-                write!(f, "denied RPC_MISMATCH versions {low} to {high}"),
+            Outcome::ProgMismatch(low, high) => write!(f, "PROG_MISMATCH versions {low} to {high}"),
+            Outcome::RpcMismatch(low, high) => write!(
+                f,
+                "denied RPC_MISMATCH versions {low} to {high}"
+            ),
             Outcome::AuthError(stat) => match auth_stat(stat) {
                 Some(name) => write!(f, "denied AUTH_ERROR {name}"),
                 None => write!(f, "denied AUTH_ERROR auth_stat {stat}"),

@@ -253,7 +253,11 @@ fn write_rights<W: fmt::Write>(rights: u32, f: &mut fmt::Formatter<W>) -> fmt::R
             f.write_str(name)?;
         }
     }
-    if rights == 0 { f.write_str(" none") } else { Ok(()) }
+    if rights == 0 {
+        f.write_str(" none")
+    } else {
+        Ok(())
+    }
 }
 
 /// Writes the numbers of a file system.
@@ -272,8 +276,7 @@ fn write_numbers<W: fmt::Write>(results: Results<'_>, f: &mut fmt::Formatter<W>)
             f,
             "OK READ up to {read} bytes, WRITE up to {write} bytes, files up to {file} bytes"
         ),
-        Results::Names { links, name } =>
-            write!(f, "OK {links} links, names up to {name} bytes"),
+        Results::Names { links, name } => write!(f, "OK {links} links, names up to {name} bytes"),
         _ => f.write_str("OK"),
     }
 }

@@ -241,8 +241,9 @@ fn show_behind<R: Source, A: Source, K: Sink>(
     ensures sink_cause { Counts (K.faults sink.old) (K.faults sink.new) (result ≡ Ending.SinkFault) }
 {
     match begin(alloc, recording) {
-        Ok((mut calls, mut buf)) =>
-            show_frames(alloc, recording, &mut calls, answers, &mut buf, sink),
+        Ok((mut calls, mut buf)) => show_frames(
+            alloc, recording, &mut calls, answers, &mut buf, sink,
+        ),
         Err(ending) => ending,
     }
 }
