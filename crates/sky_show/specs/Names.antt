@@ -1,5 +1,5 @@
 -- The names of statuses and procedures (RFC 1813).
-use Rattle.std.specs.Prelude.{ℕ, List, [], ◌∷◌, codes}
+use Rattle.std.specs.Prelude.{◌==◌, ℕ, List, [], ◌∷◌, Option, Some, None, codes, if◌then◌else◌}
 use Rattle.sky_nfs.specs.declared.status.NfsStatus.{NfsStatus}
 use Rattle.sky_nfs.specs.declared.status.NfsStatus.TheVariants.{Perm, NoEnt, Io, Acces, Exist, NotDir, IsDir, Inval, FBig, NoSpc, MLink, NameTooLong, NotEmpty, Stale, BadHandle, NotSync, BadCookie, NotSupp, TooSmall, ServerFault, BadType, Jukebox}
 
@@ -49,3 +49,31 @@ abbrev pub auth_stats : List (List ℕ)
 auth_stats =
     codes "AUTH_OK" ∷ codes "AUTH_BADCRED" ∷ codes "AUTH_REJECTEDCRED" ∷ codes "AUTH_BADVERF" ∷ codes "AUTH_REJECTEDVERF"
     ∷ codes "AUTH_TOOWEAK" ∷ codes "AUTH_INVALIDRESP" ∷ codes "AUTH_FAILED" ∷ []
+
+-- the name that stands beside a number in a table
+abbrev pub name_in : List (ℕ × List ℕ) → ℕ → Option (List ℕ)
+name_in [] number = None
+name_in (row ∷ rows) number = if row.0 == number then Some row.1 else name_in rows number
+
+-- the refusals of MNT (mountstat3, RFC 1813 section 5.1.5)
+abbrev pub mount_statuses : List (ℕ × List ℕ)
+mount_statuses =
+    (1, codes "MNT3ERR_PERM") ∷ (2, codes "MNT3ERR_NOENT") ∷ (5, codes "MNT3ERR_IO") ∷ (13, codes "MNT3ERR_ACCES")
+    ∷ (20, codes "MNT3ERR_NOTDIR") ∷ (22, codes "MNT3ERR_INVAL") ∷ (63, codes "MNT3ERR_NAMETOOLONG")
+    ∷ (10004, codes "MNT3ERR_NOTSUPP") ∷ (10006, codes "MNT3ERR_SERVERFAULT") ∷ []
+
+-- kinds of objects (ftype3, RFC 1813 section 2.6)
+abbrev pub kinds : List (ℕ × List ℕ)
+kinds =
+    (1, codes "regular") ∷ (2, codes "directory") ∷ (3, codes "block device") ∷ (4, codes "character device")
+    ∷ (5, codes "symbolic link") ∷ (6, codes "socket") ∷ (7, codes "named pipe") ∷ []
+
+-- how stable written bytes are (stable_how, RFC 1813 section 3.3.7)
+abbrev pub stable_hows : List (List ℕ)
+stable_hows = codes "UNSTABLE" ∷ codes "DATA_SYNC" ∷ codes "FILE_SYNC" ∷ []
+
+-- the statuses with which a run of the proxy ends, in the order of their numbers
+abbrev pub run_statuses : List (List ℕ)
+run_statuses =
+    codes "Done" ∷ codes "Words" ∷ codes "Malformed" ∷ codes "Early" ∷ codes "SourceFault" ∷ codes "SinkFault" ∷ codes "JournalFault"
+    ∷ codes "CloudFault" ∷ codes "Memory" ∷ codes "Foreign, Missing, Damaged or Worn" ∷ codes "Long" ∷ codes "Settings" ∷ []

@@ -1,5 +1,9 @@
 //! The results of MOUNT procedures (RFC 1813 section 5.2).
 
+ghost use Rattle.std.specs.Prelude.{◌≡◌};
+ghost use Rattle.std.specs.Option.{option_map};
+ghost use Rattle.sky_show.specs.Names.{mount_statuses, name_in};
+
 use crate::parts::{Handle, MAX_HANDLE_BYTES, Quoted};
 use sky_xdr::{Reader, XdrFault};
 use std::fmt;
@@ -52,7 +56,9 @@ pub fn read_mount_results(procedure: u32, bytes: &[u8]) -> Result<MountResults<'
 }
 
 /// The name of a refusal (`mountstat3`, RFC 1813 section 5.1.5).
-pub fn mount_status_name(status: u32) -> Option<&'static str> {
+fn mount_status_name(status: u32) -> Option<&'static str>
+    ensures { option_map (λ name. name.now) result ≡ name_in mount_statuses status }
+{
     match status {
         1 => Some("MNT3ERR_PERM"),
         2 => Some("MNT3ERR_NOENT"),

@@ -1,5 +1,9 @@
 //! Frames of answers that are no replies.
 
+ghost use Rattle.std.specs.Prelude.{◌≡◌, slice_get};
+ghost use Rattle.std.specs.Option.{option_map};
+ghost use Rattle.sky_show.specs.Names.{run_statuses};
+
 use crate::answers::Answer;
 use crate::parts::Quoted;
 use sky_script::Stats;
@@ -188,21 +192,23 @@ impl fmt::Display for Outcome<'_> {
 }
 
 /// The name of a status with which a run ends, by its number.
-fn status_word(status: u32) -> &'static str {
+fn status_word(status: u32) -> Option<&'static str>
+    ensures { option_map (λ name. name.now) result ≡ slice_get run_statuses status }
+{
     match status {
-        0 => "Done",
-        1 => "Words",
-        2 => "Malformed",
-        3 => "Early",
-        4 => "SourceFault",
-        5 => "SinkFault",
-        6 => "JournalFault",
-        7 => "CloudFault",
-        8 => "Memory",
-        9 => "Foreign, Missing, Damaged or Worn",
-        10 => "Long",
-        11 => "Settings",
-        _ => "a status that has no name here",
+        0 => Some("Done"),
+        1 => Some("Words"),
+        2 => Some("Malformed"),
+        3 => Some("Early"),
+        4 => Some("SourceFault"),
+        5 => Some("SinkFault"),
+        6 => Some("JournalFault"),
+        7 => Some("CloudFault"),
+        8 => Some("Memory"),
+        9 => Some("Foreign, Missing, Damaged or Worn"),
+        10 => Some("Long"),
+        11 => Some("Settings"),
+        _ => None,
     }
 }
 
@@ -211,7 +217,11 @@ fn write_ending<W: fmt::Write>(status: u32, place: u64, f: &mut fmt::Formatter<W
     match status {
         2 => write!(f, "status 2 Malformed at byte {place} of the recording"),
         9 if place > 0 => write!(f, "status 9 Foreign at byte {place} of the journal"),
-        _ => write!(f, "status {status} {}", status_word(status)),
+        _ => write!(
+            f,
+            "status {status} {}",
+            status_word(status).unwrap_or("a status that has no name here")
+        ),
     }
 }
 

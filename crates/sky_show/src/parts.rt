@@ -1,5 +1,9 @@
 //! Parts of results: attributes, handles and texts.
 
+ghost use Rattle.std.specs.Prelude.{◌≡◌};
+ghost use Rattle.std.specs.Option.{option_map};
+ghost use Rattle.sky_show.specs.Names.{kinds, name_in};
+
 use sky_xdr::{Reader, XdrFault};
 use std::fmt;
 
@@ -52,16 +56,18 @@ pub fn take_wcc(reader: &mut Reader<'_>) -> Result<(), XdrFault> {
 }
 
 /// The name of a kind of object (`ftype3`, RFC 1813 section 2.6).
-fn kind_name(kind: u32) -> &'static str {
+fn kind_name(kind: u32) -> Option<&'static str>
+    ensures { option_map (λ name. name.now) result ≡ name_in kinds kind }
+{
     match kind {
-        1 => "regular",
-        2 => "directory",
-        3 => "block device",
-        4 => "character device",
-        5 => "symbolic link",
-        6 => "socket",
-        7 => "named pipe",
-        _ => "of no known kind",
+        1 => Some("regular"),
+        2 => Some("directory"),
+        3 => Some("block device"),
+        4 => Some("character device"),
+        5 => Some("symbolic link"),
+        6 => Some("socket"),
+        7 => Some("named pipe"),
+        _ => None,
     }
 }
 
@@ -71,7 +77,7 @@ impl fmt::Display for Attributes {
             f,
             "fileid {} {} {} bytes mode {:o}",
             self.fileid,
-            kind_name(self.kind),
+            kind_name(self.kind).unwrap_or("of no known kind"),
             self.size,
             self.mode
         )

@@ -1,5 +1,9 @@
 //! The results of NFS procedures: their status, and what they mainly say (RFC 1813 section 3.3).
 
+ghost use Rattle.std.specs.Prelude.{◌≡◌, slice_get};
+ghost use Rattle.std.specs.Option.{option_map};
+ghost use Rattle.sky_show.specs.Names.{stable_hows};
+
 use crate::parts::{
     Attributes, Handle, MAX_HANDLE_BYTES, Quoted, take_attributes, take_some_attributes, take_wcc,
 };
@@ -221,12 +225,14 @@ pub fn read_results(procedure: u32, bytes: &[u8]) -> Result<Results<'_>, XdrFaul
 }
 
 /// The name of how stable written bytes are (`stable_how`, RFC 1813 section 3.3.7).
-fn stable_name(committed: u32) -> &'static str {
+fn stable_name(committed: u32) -> Option<&'static str>
+    ensures { option_map (λ name. name.now) result ≡ slice_get stable_hows committed }
+{
     match committed {
-        0 => "UNSTABLE",
-        1 => "DATA_SYNC",
-        2 => "FILE_SYNC",
-        _ => "stable in no known way",
+        0 => Some("UNSTABLE"),
+        1 => Some("DATA_SYNC"),
+        2 => Some("FILE_SYNC"),
+        _ => None,
     }
 }
 
@@ -302,7 +308,7 @@ impl fmt::Display for Results<'_> {
             } => write!(
                 f,
                 "OK {count} bytes {}, verifier {verifier}",
-                stable_name(committed)
+                stable_name(committed).unwrap_or("stable in no known way")
             ),
             Results::Entries { count, eof: true } => write!(f, "OK {count} entries, the last"),
             Results::Entries { count, .. } => write!(f, "OK {count} entries, more to come"),
