@@ -2,3 +2,4 @@ mod Headers
 mod Lines
 mod Faults
 mod Shows
+mod Numbers

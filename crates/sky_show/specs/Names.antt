@@ -1,5 +1,5 @@
 -- The names of statuses and procedures (RFC 1813).
-use Rattle.std.specs.Prelude.{◌==◌, ℕ, List, [], ◌∷◌, Option, Some, None, codes, if◌then◌else◌}
+use Rattle.std.specs.Prelude.{◌==◌, ◌&&◌, ℕ, List, [], ◌∷◌, Option, Some, None, codes, if◌then◌else◌}
 use Rattle.sky_nfs.specs.declared.status.NfsStatus.{NfsStatus}
 use Rattle.sky_nfs.specs.declared.status.NfsStatus.TheVariants.{Perm, NoEnt, Io, Acces, Exist, NotDir, IsDir, Inval, FBig, NoSpc, MLink, NameTooLong, NotEmpty, Stale, BadHandle, NotSync, BadCookie, NotSupp, TooSmall, ServerFault, BadType, Jukebox}
 
@@ -77,3 +77,44 @@ abbrev pub run_statuses : List (List ℕ)
 run_statuses =
     codes "Done" ∷ codes "Words" ∷ codes "Malformed" ∷ codes "Early" ∷ codes "SourceFault" ∷ codes "SinkFault" ∷ codes "JournalFault"
     ∷ codes "CloudFault" ∷ codes "Memory" ∷ codes "Foreign, Missing, Damaged or Worn" ∷ codes "Long" ∷ codes "Settings" ∷ []
+
+-- what a code of a step means, and what its two numbers are; a number that is not used has no name
+pub record StepWords : Type 0 where
+  pub kind : ℕ
+  pub code : ℕ
+  pub words : List ℕ × List ℕ × List ℕ
+
+abbrev pub step : ℕ → ℕ → List ℕ → List ℕ → List ℕ → StepWords
+step kind code what first second = record { kind = kind; code = code; words = (what, first, second) }
+
+-- the codes of the steps of the log: 10 seals, 11 uploads, 12 evicts, 13 cleans, 14 merges, 15 collects
+abbrev pub steps : List StepWords
+steps =
+    step 10 0 (codes "Sealed") (codes "covers") (codes "objects")
+    ∷ step 10 1 (codes "Unchanged") (codes "covers") []
+    ∷ step 10 2 (codes "Busy") (codes "objects that wait") []
+    ∷ step 11 0 (codes "Put") (codes "objects left") []
+    ∷ step 11 1 (codes "Idle") [] []
+    ∷ step 11 3 (codes "Completed") (codes "covers") []
+    ∷ step 12 0 (codes "Evicted") (codes "residents") (codes "clean residents left")
+    ∷ step 13 0 (codes "Chosen") (codes "run") (codes "victims")
+    ∷ step 13 1 (codes "Nothing") [] []
+    ∷ step 13 2 (codes "Waiting") (codes "run") []
+    ∷ step 13 3 (codes "Copied") (codes "items") []
+    ∷ step 13 4 (codes "Finished") (codes "run") (codes "touched")
+    ∷ step 13 5 (codes "Abandoned") [] []
+    ∷ step 14 0 (codes "Took") (codes "taken") (codes "kept")
+    ∷ step 14 1 (codes "Nothing") [] []
+    ∷ step 14 3 (codes "Finished") (codes "run") []
+    ∷ step 15 0 (codes "Removed") [] []
+    ∷ step 15 1 (codes "Nothing") [] []
+    ∷ []
+
+-- the words of a code of a step
+abbrev pub words_in : List StepWords → ℕ → ℕ → Option (List ℕ × List ℕ × List ℕ)
+words_in [] kind code = None
+words_in (row ∷ rows) kind code = if (row.kind == kind) && (row.code == code) then Some row.words else words_in rows kind code
+
+-- the codes that each step has: a call of the cloud failed, there was no memory, an item is lost
+abbrev pub failures : List (ℕ × List ℕ)
+failures = (7, codes "fault of the cloud") ∷ (8, codes "no memory") ∷ (9, codes "Lost") ∷ []

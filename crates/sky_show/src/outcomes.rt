@@ -2,7 +2,7 @@
 
 ghost use Rattle.std.specs.Prelude.{◌≡◌, slice_get};
 ghost use Rattle.std.specs.Option.{option_map};
-ghost use Rattle.sky_show.specs.Names.{run_statuses};
+ghost use Rattle.sky_show.specs.Names.{failures, name_in, run_statuses, steps, words_in};
 
 use crate::answers::Answer;
 use crate::parts::Quoted;
@@ -143,29 +143,51 @@ pub fn told_by<'a>(answer: Answer<'a>) -> Told<'a> {
     }
 }
 
-/// What a code of a step means, and what its two numbers are, where they are used.
-fn words_of(kind: u8, code: u32) -> (&'static str, &'static str, &'static str) {
+/// What a code of a step means, and what its two numbers are, where they are used. `None` where it has no name.
+fn words_of(kind: u8, code: u32) -> Option<(&'static str, &'static str, &'static str)>
+    ensures { option_map (λ words. (words.0.now, words.1.now, words.2.now)) result ≡ words_in steps kind code }
+{
     match (kind, code) {
-        (10, 0) => ("Sealed", "covers", "objects"),
-        (10, 1) => ("Unchanged", "covers", ""),
-        (10, 2) => ("Busy", "objects that wait", ""),
-        (11, 0) => ("Put", "objects left", ""),
-        (11, 1) => ("Idle", "", ""),
-        (11, 3) => ("Completed", "covers", ""),
-        (12, 0) => ("Evicted", "residents", "clean residents left"),
-        (13, 0) => ("Chosen", "run", "victims"),
-        (13, 2) => ("Waiting", "run", ""),
-        (13, 3) => ("Copied", "items", ""),
-        (13, 4) => ("Finished", "run", "touched"),
-        (13, 5) => ("Abandoned", "", ""),
-        (14, 0) => ("Took", "taken", "kept"),
-        (14, 3) => ("Finished", "run", ""),
-        (15, 0) => ("Removed", "", ""),
-        (13..=15, 1) => ("Nothing", "", ""),
-        (_, 7) => ("fault of the cloud", "", ""),
-        (_, 8) => ("no memory", "", ""),
-        (_, 9) => ("Lost", "", ""),
-        _ => ("a code that has no name here", "first", "second"),
+        (10, 0) => Some(("Sealed", "covers", "objects")),
+        (10, 1) => Some(("Unchanged", "covers", "")),
+        (10, 2) => Some(("Busy", "objects that wait", "")),
+        (11, 0) => Some(("Put", "objects left", "")),
+        (11, 1) => Some(("Idle", "", "")),
+        (11, 3) => Some(("Completed", "covers", "")),
+        (12, 0) => Some(("Evicted", "residents", "clean residents left")),
+        (13, 0) => Some(("Chosen", "run", "victims")),
+        (13, 1) => Some(("Nothing", "", "")),
+        (13, 2) => Some(("Waiting", "run", "")),
+        (13, 3) => Some(("Copied", "items", "")),
+        (13, 4) => Some(("Finished", "run", "touched")),
+        (13, 5) => Some(("Abandoned", "", "")),
+        (14, 0) => Some(("Took", "taken", "kept")),
+        (14, 1) => Some(("Nothing", "", "")),
+        (14, 3) => Some(("Finished", "run", "")),
+        (15, 0) => Some(("Removed", "", "")),
+        (15, 1) => Some(("Nothing", "", "")),
+        _ => None,
+    }
+}
+
+/// What a code means that each step has, where it is one.
+fn failure_of(code: u32) -> Option<&'static str>
+    ensures { option_map (λ name. name.now) result ≡ name_in failures code }
+{
+    match code {
+        7 => Some("fault of the cloud"),
+        8 => Some("no memory"),
+        9 => Some("Lost"),
+        _ => None,
+    }
+}
+
+/// The words of a step's code, whether it is one of the step's own, one that each step has, or has no name.
+fn step_words(kind: u8, code: u32) -> (&'static str, &'static str, &'static str) {
+    match (words_of(kind, code), failure_of(code)) {
+        (Some(words), _) => words,
+        (None, Some(what)) => (what, "", ""),
+        (None, None) => ("a code that has no name here", "first", "second"),
     }
 }
 
@@ -180,7 +202,7 @@ fn write_part<W: fmt::Write>(what: &str, number: u64, f: &mut fmt::Formatter<W>)
 
 impl fmt::Display for Outcome<'_> {
     fn fmt<W: fmt::Write>(&self, f: &mut fmt::Formatter<W>) -> fmt::Result {
-        let (what, first, second) = words_of(self.kind, self.code);
+        let (what, first, second) = step_words(self.kind, self.code);
         f.write_str(what)?;
         write_part(first, self.first, f)?;
         write_part(second, self.second, f)?;

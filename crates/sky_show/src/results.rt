@@ -1,8 +1,10 @@
 //! The results of NFS procedures: their status, and what they mainly say (RFC 1813 section 3.3).
 
-ghost use Rattle.std.specs.Prelude.{◌≡◌, slice_get};
+ghost use Rattle.std.specs.Prelude.{◌≡◌, ◌<◌, ◌^◌, ◌++◌, ℕ, List, IfOk, IsOk, slice_get};
 ghost use Rattle.std.specs.Option.{option_map};
+ghost use Rattle.sky_xdr.specs.Encoding.{uint};
 ghost use Rattle.sky_show.specs.Names.{stable_hows};
+ghost use Rattle.sky_show.specs.Results.{status_in};
 
 use crate::parts::{
     Attributes, Handle, MAX_HANDLE_BYTES, Quoted, take_attributes, take_some_attributes, take_wcc,
@@ -74,14 +76,18 @@ pub enum Results<'a> {
 }
 
 /// Takes the results of LOOKUP.
-fn take_found<'a>(reader: &mut Reader<'a>) -> Result<Results<'a>, XdrFault> {
+fn take_found<'a>(reader: &mut Reader<'a>) -> Result<Results<'a>, XdrFault>
+    ensures { IfOk result (λ r. status_in r ≡ 0) }
+{
     let handle = reader.take_opaque(MAX_HANDLE_BYTES)?;
     let object = take_some_attributes(reader)?;
     Ok(Results::Found { handle, object })
 }
 
 /// Takes the results of CREATE, MKDIR or SYMLINK, in which the handle may be left out.
-fn take_made<'a>(reader: &mut Reader<'a>) -> Result<Results<'a>, XdrFault> {
+fn take_made<'a>(reader: &mut Reader<'a>) -> Result<Results<'a>, XdrFault>
+    ensures { IfOk result (λ r. status_in r ≡ 0) }
+{
     if reader.take_bool()? {
         take_found(reader)
     } else {
@@ -90,19 +96,25 @@ fn take_made<'a>(reader: &mut Reader<'a>) -> Result<Results<'a>, XdrFault> {
 }
 
 /// Takes the results of ACCESS.
-fn take_rights<'a>(reader: &mut Reader<'a>) -> Result<Results<'a>, XdrFault> {
+fn take_rights<'a>(reader: &mut Reader<'a>) -> Result<Results<'a>, XdrFault>
+    ensures { IfOk result (λ r. status_in r ≡ 0) }
+{
     take_some_attributes(reader)?;
     Ok(Results::Rights(reader.take_u32()?))
 }
 
 /// Takes the results of READLINK.
-fn take_text<'a>(reader: &mut Reader<'a>) -> Result<Results<'a>, XdrFault> {
+fn take_text<'a>(reader: &mut Reader<'a>) -> Result<Results<'a>, XdrFault>
+    ensures { IfOk result (λ r. status_in r ≡ 0) }
+{
     take_some_attributes(reader)?;
     Ok(Results::Text(reader.take_opaque(u32::MAX)?))
 }
 
 /// Takes the results of READ.
-fn take_data<'a>(reader: &mut Reader<'a>) -> Result<Results<'a>, XdrFault> {
+fn take_data<'a>(reader: &mut Reader<'a>) -> Result<Results<'a>, XdrFault>
+    ensures { IfOk result (λ r. status_in r ≡ 0) }
+{
     take_some_attributes(reader)?;
     let count = reader.take_u32()?;
     let eof = reader.take_bool()?;
@@ -110,7 +122,9 @@ fn take_data<'a>(reader: &mut Reader<'a>) -> Result<Results<'a>, XdrFault> {
 }
 
 /// Takes the results of WRITE.
-fn take_written<'a>(reader: &mut Reader<'a>) -> Result<Results<'a>, XdrFault> {
+fn take_written<'a>(reader: &mut Reader<'a>) -> Result<Results<'a>, XdrFault>
+    ensures { IfOk result (λ r. status_in r ≡ 0) }
+{
     take_wcc(reader)?;
     let count = reader.take_u32()?;
     let committed = reader.take_u32()?;
@@ -123,7 +137,9 @@ fn take_written<'a>(reader: &mut Reader<'a>) -> Result<Results<'a>, XdrFault> {
 }
 
 /// Takes the results of COMMIT.
-fn take_committed<'a>(reader: &mut Reader<'a>) -> Result<Results<'a>, XdrFault> {
+fn take_committed<'a>(reader: &mut Reader<'a>) -> Result<Results<'a>, XdrFault>
+    ensures { IfOk result (λ r. status_in r ≡ 0) }
+{
     take_wcc(reader)?;
     Ok(Results::Committed(reader.take_u64()?))
 }
@@ -143,7 +159,9 @@ fn take_entry(reader: &mut Reader<'_>, plus: bool) -> Result<(), XdrFault> {
 }
 
 /// Takes the results of READDIR or READDIRPLUS.
-fn take_entries<'a>(reader: &mut Reader<'a>, plus: bool) -> Result<Results<'a>, XdrFault> {
+fn take_entries<'a>(reader: &mut Reader<'a>, plus: bool) -> Result<Results<'a>, XdrFault>
+    ensures { IfOk result (λ r. status_in r ≡ 0) }
+{
     take_some_attributes(reader)?;
     reader.take_fixed(8)?;
     for count in 0..MAX_ENTRIES {
@@ -157,7 +175,9 @@ fn take_entries<'a>(reader: &mut Reader<'a>, plus: bool) -> Result<Results<'a>, 
 }
 
 /// Takes the results of FSSTAT.
-fn take_space<'a>(reader: &mut Reader<'a>) -> Result<Results<'a>, XdrFault> {
+fn take_space<'a>(reader: &mut Reader<'a>) -> Result<Results<'a>, XdrFault>
+    ensures { IfOk result (λ r. status_in r ≡ 0) }
+{
     take_some_attributes(reader)?;
     let bytes = reader.take_u64()?;
     let free_bytes = reader.take_u64()?;
@@ -173,7 +193,9 @@ fn take_space<'a>(reader: &mut Reader<'a>) -> Result<Results<'a>, XdrFault> {
 }
 
 /// Takes the results of FSINFO.
-fn take_sizes<'a>(reader: &mut Reader<'a>) -> Result<Results<'a>, XdrFault> {
+fn take_sizes<'a>(reader: &mut Reader<'a>) -> Result<Results<'a>, XdrFault>
+    ensures { IfOk result (λ r. status_in r ≡ 0) }
+{
     take_some_attributes(reader)?;
     let read = reader.take_u32()?;
     reader.take_fixed(8)?;
@@ -184,7 +206,9 @@ fn take_sizes<'a>(reader: &mut Reader<'a>) -> Result<Results<'a>, XdrFault> {
 }
 
 /// Takes the results of PATHCONF.
-fn take_names<'a>(reader: &mut Reader<'a>) -> Result<Results<'a>, XdrFault> {
+fn take_names<'a>(reader: &mut Reader<'a>) -> Result<Results<'a>, XdrFault>
+    ensures { IfOk result (λ r. status_in r ≡ 0) }
+{
     take_some_attributes(reader)?;
     let links = reader.take_u32()?;
     let name = reader.take_u32()?;
@@ -192,7 +216,9 @@ fn take_names<'a>(reader: &mut Reader<'a>) -> Result<Results<'a>, XdrFault> {
 }
 
 /// Takes what stands behind NFS3_OK in the results of a procedure.
-fn take_ok<'a>(procedure: u32, reader: &mut Reader<'a>) -> Result<Results<'a>, XdrFault> {
+fn take_ok<'a>(procedure: u32, reader: &mut Reader<'a>) -> Result<Results<'a>, XdrFault>
+    ensures { IfOk result (λ r. status_in r ≡ 0) }
+{
     match procedure {
         1 => Ok(Results::Object(take_attributes(reader)?)),
         3 => take_found(reader),
@@ -213,7 +239,12 @@ fn take_ok<'a>(procedure: u32, reader: &mut Reader<'a>) -> Result<Results<'a>, X
 
 /// What the results of a procedure mainly say, by its number. What stands behind that is passed over, and so are the attributes behind a refusal.
 /// A fault where they end before it, or are not of their grammar.
-pub fn read_results(procedure: u32, bytes: &[u8]) -> Result<Results<'_>, XdrFault> {
+pub fn read_results(procedure: u32, bytes: &[u8]) -> Result<Results<'_>, XdrFault>
+    // The status that is told is the one that they begin with.
+    ensures status { 0 < procedure → IfOk result (λ r. (more : List ℕ) × (bytes.now ≡ uint (status_in r) ++ more)) }
+    // A refusal is always told.
+    ensures refused { 0 < procedure → (status : ℕ) (more : List ℕ) → 0 < status → status < 2 ^ 32 → bytes.now ≡ uint status ++ more → IsOk result }
+{
     if procedure == 0 {
         return Ok(Results::Done);
     }
