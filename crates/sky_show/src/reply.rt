@@ -1,7 +1,8 @@
 //! Replies of RPC (RFC 5531, section 9).
 
-ghost use Rattle.std.specs.Prelude.{◌≡◌, slice_get};
+ghost use Rattle.std.specs.Prelude.{◌≡◌, ◌++◌, ℕ, List, IfOk, slice_get};
 ghost use Rattle.std.specs.Option.{option_map};
+ghost use Rattle.sky_xdr.specs.Encoding.{uint};
 ghost use Rattle.sky_show.specs.Names.{accept_stats, auth_stats};
 
 use sky_xdr::{Reader, XdrFault};
@@ -71,7 +72,10 @@ fn is_header(word: u32, length: usize) -> bool {
 }
 
 /// The reply that a record is, which is one fragment. Where bytes are no such record, a fault.
-pub fn read_reply(bytes: &[u8]) -> Result<Reply<'_>, XdrFault> {
+pub fn read_reply(bytes: &[u8]) -> Result<Reply<'_>, XdrFault>
+    // The number that is told stands behind the header.
+    ensures { IfOk result (λ r. (word : ℕ) × (more : List ℕ) × (bytes.now ≡ uint word ++ (uint r.xid ++ more))) }
+{
     let mut reader = Reader::over(bytes);
     let header = reader.take_u32()?;
     if !is_header(header, reader.rest().len()) {
