@@ -1,7 +1,7 @@
 -- Each line is one line.
-use Rattle.std.proofs.Common.{◌≡◌, ◌≢◌, ℕ, zero, suc, List, [], ◌∷◌, ◌++◌, map, refl, arith}
+use Rattle.std.proofs.Common.{◌≢◌, ℕ, zero, suc, List, [], ◌∷◌, map, refl, arith}
 use Rattle.std.specs.Prelude.{slice_index}
-use Rattle.sky_show.specs.Line.{in_line, line, HasNoLineEnd, IsLine}
+use Rattle.sky_show.specs.Line.{in_line, line, IsLine}
 
 -- a byte within a line ends none
 within : (x : ℕ) → in_line x ≢ 10

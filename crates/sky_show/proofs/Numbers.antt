@@ -1,8 +1,8 @@
 -- The status that results begin with.
-use Rattle.std.proofs.Common.{◌≡◌, ◌≢◌, ◌∙◌, ◌<◌, ◌^◌, ℕ, List, ◌++◌, Result, Ok, Err, sym, ap, arith}
+use Rattle.std.proofs.Common.{◌≡◌, ◌∙◌, ◌<◌, ◌^◌, ℕ, List, ◌++◌, Ok, Err, sym, ap}
 use Rattle.sky_xdr.specs.declared.fault.XdrFault.{XdrFault}
 use Rattle.sky_xdr.specs.Encoding.{uint}
-use Rattle.sky_xdr.specs.Reading.{uint_at, Takes}
+use Rattle.sky_xdr.specs.Reading.{uint_at}
 use Rattle.sky_xdr.proofs.Numbers.{uint_again, uint_same}
 
 -- a number that is there is read

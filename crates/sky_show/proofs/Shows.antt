@@ -2,7 +2,7 @@
 use Rattle.std.proofs.Common.{◌≡◌, ◌∙◌, ◌+◌, ℕ, Option, Result, Err, IsErrOf, ◌≢◌, List, [], ◌∷◌, ◌++◌, length, refl, sym, ap, subst, inl, inr, arith}
 use Rattle.std.proofs.lemmas.List.{append-nil, length-append}
 use Rattle.std.proofs.lemmas.Grind.{flat_map-append}
-use Rattle.std.specs.List.{flat_map, AllByRecursion}
+use Rattle.std.specs.List.{AllByRecursion}
 use Rattle.sky_outside.specs.Told.{Had, Given, WhereTold}
 use Rattle.sky_outside.proofs.ToldLaws.{Had-none, Had-then, Given-none, Given-then}
 use Rattle.sky_script.specs.Frame.{Parts, frame, magic}
@@ -14,7 +14,7 @@ use Rattle.sky_show.specs.declared.ending.Ending.{Ending}
 use Rattle.sky_show.specs.declared.ending.Ending.TheVariants as ending
 use Rattle.sky_show.specs.declared.showing.Stop.{Stop}
 use Rattle.sky_show.specs.declared.showing.Stop.TheVariants as stop
-use Rattle.sky_show.specs.Shown.{Shown, GoesOn, WereShown, StoppedBy, IsStop, Ran, no_magic, no_start, RanFrom, EndedBehind, stopped, long, frame_limit, frames_of, lines_of, line_for, ending_of}
+use Rattle.sky_show.specs.Shown.{Shown, GoesOn, WereShown, StoppedBy, IsStop, Ran, no_magic, no_start, RanFrom, stopped, long, frame_limit, frames_of, lines_of, line_for, ending_of}
 
 -- so many frames were shown, the first of which was due at 8 and the next one is due at this place
 pub record SoFar (place count : ℕ) (had left before after : Option (List ℕ)) : Type 0 where

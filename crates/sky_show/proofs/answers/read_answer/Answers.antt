@@ -1,4 +1,3 @@
-use Rattle.std.proofs.Common.{◌++◌}
 use Rattle.sky_outside.proofs.ToldLaws.{Had-then}
 use Rattle.sky_show.specs.Frames.{HadSome}
 use Rattle.sky_show.proofs.Faults.{on_err}

@@ -1,4 +1,4 @@
-use Rattle.std.proofs.Common.{◌≡◌, ℕ, sym, subst, arith}
+use Rattle.std.proofs.Common.{◌≡◌, arith}
 use Rattle.sky_show.proofs.Numbers.{is_read, one_number}
 use Rattle.sky_show.proofs.results.read_results.Goals as goal
 

@@ -1,4 +1,4 @@
-use Rattle.std.proofs.Common.{rules, ◌∙◌, arith}
+use Rattle.std.proofs.Common.{rules, arith}
 use Rattle.sky_show.proofs.Shows.{and_then, and_stopped}
 use Rattle.sky_show.proofs.showing.show_frames.Goals as goal
 

@@ -1,5 +1,4 @@
-use Rattle.std.proofs.Common.{◌≡◌, ◌≤◌, ◌+◌, ◌*◌, List, length}
-use Rattle.sky_show.specs.Shown.{Shown, WereShown, frames_of}
+use Rattle.std.proofs.Common.{◌≡◌, ◌≤◌, ◌+◌, ◌*◌}
 use Rattle.sky_show.proofs.Shows.{SoFar}
 use Rattle.sky_show.proofs.showing.show_frames.Given as goal
 

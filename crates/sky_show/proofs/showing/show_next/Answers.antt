@@ -1,4 +1,4 @@
-use Rattle.std.proofs.Common.{rules, arith}
+use Rattle.std.proofs.Common.{arith}
 use Rattle.sky_show.specs.Frames.{parts_of}
 use Rattle.sky_show.proofs.Shows.{shown_on}
 use Rattle.sky_show.proofs.showing.show_next.Goals as goal
