@@ -2,7 +2,7 @@
 //! So far it replays recorded sessions: `bluesky replay --journal PATH --cloud PATH [--settings PATH]`.
 #![tactic(auto)]
 
-ghost use Rattle.std.specs.Prelude.{◌≡◌, ◌*◌, [], ◌∷◌, drop, map, string_bytes, codes, IsTrue, ◌↔◌, IfOk, IfErr, IsErrOf};
+ghost use Rattle.std.specs.Prelude.{◌≡◌, ◌⊎◌, ◌*◌, [], ◌∷◌, drop, map, string_bytes, codes, IsTrue, ◌↔◌, IfOk, IfErr, IsErrOf};
 ghost use Rattle.std.specs.Process.{exit_status};
 ghost use Rattle.std.specs.Vec.Iter.{into_iter_items};
 ghost use Rattle.sky_settings.specs.declared.settings.Fields.{Fields};
@@ -20,6 +20,7 @@ mod run;
 #[cfg(test)]
 mod tests;
 mod usage;
+mod words;
 
 pub use infallible::run_infallible;
 pub use laws::{a_blank_site_can_be_opened, each_recording_has_one_reading};
@@ -28,7 +29,7 @@ use sky_base::{Paths, Status, Text};
 use sky_real::{FileSite, StdinSource, StdoutSink};
 use sky_settings_file::{SettingsFault, read_settings};
 use sky_texts::Ending;
-use sky_words::{Command, WordsFault, paths_of, read_words};
+use sky_words::{WordsFault, paths_of};
 use std::alloc::Global;
 use std::env::Args;
 use std::io::{BufReader, ErrorKind};
@@ -36,6 +37,7 @@ use std::process::ExitCode;
 use std::rt::Env;
 use std::{env, fmt, fs, io};
 use usage::usage;
+use words::are_replay;
 
 /// What stands behind the program's name.
 fn without_name(mut args: Vec<String>) -> Vec<String>
@@ -147,9 +149,10 @@ fn run_named(rt: &HostRuntime, alloc: Global, words: &[String]) -> Ending
 fn run_words(rt: &HostRuntime, alloc: Global, words: &[String]) -> Ending
     ensures words { (result ≡ Ending.Ran Status.Words) ↔ (Says Replay (map string_bytes words.now) → ⊥) }
 {
-    match read_words(words) {
-        Ok(Command::Replay) => run_named(rt, alloc, words),
-        _ => Ending::Ran(Status::Words),
+    if are_replay(words) {
+        run_named(rt, alloc, words)
+    } else {
+        Ending::Ran(Status::Words)
     }
 }
 
@@ -199,9 +202,7 @@ fn run_and_report(rt: &HostRuntime, words: &[String]) -> ExitCode {
 }
 
 /// Whether the only word is this one.
-fn is_only(words: &[String], wanted: &str) -> bool
-    ensures { IsTrue result ↔ (map string_bytes words.now ≡ wanted.now ∷ []) }
-{
+fn is_only(words: &[String], wanted: &str) -> bool {
     match words {
         [word] => word.as_str() == wanted,
         _ => false,

@@ -22,12 +22,12 @@ ghost use Rattle.bluesky.specs.Stop.{NoMagic, Opened, magic_status_of};
 
 use crate::ending::{end_failed, end_with};
 use crate::frames::handle_frames;
+use crate::words::are_replay;
 use sky_base::Status;
 use sky_outside::{Failed, Sink, Site, Source, fill, write_all};
 use sky_script::{FrameBuf, FrameFault};
 use sky_settings::Settings;
 use sky_settings_file::{SettingsFault, read_settings};
-use sky_words::{Command, read_words};
 use sky_world::World;
 use std::alloc::Global;
 
@@ -312,8 +312,8 @@ pub fn run<S: Source, K: Sink, P: Site>(
 
     ensures size { P.bytes_of site.new ≡ P.bytes_of site.old }
 {
-    match read_words(words) {
-        Ok(Command::Replay) => replay_by(alloc, settings, source, sink, site),
-        _ => Status::Words,
+    if !are_replay(words) {
+        return Status::Words;
     }
+    replay_by(alloc, settings, source, sink, site)
 }
