@@ -8,4 +8,3 @@ mod Going
 mod Leaving
 mod Stopping
 mod Beginning
-mod Asked

@@ -1,4 +1,5 @@
 mod Checks
+pub mod AlikeLemmas
 pub mod CarryLemmas
 pub mod CreateLemmas
 pub mod DropLemmas
@@ -7,6 +8,7 @@ pub mod GrowLemmas
 pub mod HandleLemmas
 pub mod KeptLemmas
 pub mod LinkLemmas
+pub mod LookLemmas
 pub mod MoveLemmas
 pub mod ProcedureLemmas
 pub mod RemoveLemmas

@@ -1,5 +1,0 @@
-mod Headers
-mod Lines
-mod Faults
-mod Shows
-mod Numbers
