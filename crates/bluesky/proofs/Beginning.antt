@@ -62,12 +62,12 @@ opening_whole found a b c given more = subst (λ (x : List ℕ). Given a c x) (s
 -- ---- a run that did not open its site
 
 -- the other statuses are refused by nothing that a site has
-no_refusal : {S : Type 0} (g : Ghosts S) (settings : Fields) (s : S) (v : Status) → ((image : List ℕ) (objects : CloudMap) → IsRefusedAs settings.volume settings.journal_area v image objects)
+pub no_refusal : {S : Type 0} (g : Ghosts S) (settings : Fields) (s : S) (v : Status) → ((image : List ℕ) (objects : CloudMap) → IsRefusedAs settings.volume settings.journal_area v image objects)
     → WhereBothTold g s (IsRefusedAs settings.volume settings.journal_area v)
 no_refusal g settings s v holds = both_told_from g s (IsRefusedAs settings.volume settings.journal_area v) (λ image objects is held. holds image objects)
 
 -- no epoch was claimed
-unclaimed : (n : ℕ) (a : Option CloudMap) → MayClaim n a a
+pub unclaimed : (n : ℕ) (a : Option CloudMap) → MayClaim n a a
 unclaimed n None = tt
 unclaimed n (Some x) = inl refl
 

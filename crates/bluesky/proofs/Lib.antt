@@ -8,3 +8,4 @@ mod Going
 mod Leaving
 mod Stopping
 mod Beginning
+mod Asked

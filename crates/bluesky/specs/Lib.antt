@@ -1,3 +1,3 @@
-pub mod Words
+pub mod Asked
 pub mod Run
 pub mod Stop

@@ -1,12 +1,16 @@
 //! `bluesky`, a file proxy: it serves files by NFS version 3 (RFC 1813) and keeps them in a cloud.
-//! So far it replays recorded sessions: `bluesky replay --journal PATH --cloud PATH`.
+//! So far it replays recorded sessions: `bluesky replay --journal PATH --cloud PATH [--settings PATH]`.
 #![tactic(auto)]
 
-ghost use Rattle.std.specs.Prelude.{◌≡◌, ◌≢◌, ◌⊎◌, [], drop, map, string_bytes, IfOk, IfErr};
+ghost use Rattle.std.specs.Prelude.{◌≡◌, ◌⊎◌, ◌*◌, [], ◌∷◌, drop, map, string_bytes, codes, IsTrue, ◌↔◌, IfOk, IfErr, IsErrOf};
 ghost use Rattle.std.specs.Process.{exit_status};
 ghost use Rattle.std.specs.Vec.Iter.{into_iter_items};
-ghost use Rattle.sky_base.specs.Status.{number_of};
-ghost use Rattle.bluesky.specs.Words.{IsReplay};
+ghost use Rattle.sky_settings.specs.declared.settings.Fields.{Fields};
+ghost use Rattle.sky_settings_file.specs.Table.{SaysSettings};
+ghost use Rattle.sky_texts.specs.Ending.{exit_number};
+ghost use Rattle.sky_words.specs.Words.{Says};
+ghost use Rattle.sky_words.specs.declared.command.Command.TheVariants.{Replay};
+ghost use Rattle.bluesky.specs.Asked.{SaysNone};
 
 mod ending;
 mod frames;
@@ -15,23 +19,25 @@ mod laws;
 mod run;
 #[cfg(test)]
 mod tests;
+mod usage;
 mod words;
 
 pub use infallible::run_infallible;
 pub use laws::{a_blank_site_can_be_opened, each_recording_has_one_reading};
 pub use run::run;
-use sky_base::Status;
+use sky_base::{Paths, Status, Text};
 use sky_real::{FileSite, StdinSource, StdoutSink};
+use sky_settings_file::{SettingsFault, read_settings};
+use sky_texts::Ending;
+use sky_words::{WordsFault, paths_of};
 use std::alloc::Global;
 use std::env::Args;
 use std::io::{BufReader, ErrorKind};
 use std::process::ExitCode;
 use std::rt::Env;
-use std::{env, fmt, io};
-use words::paths_of;
-
-/// The bytes of the journal's disk: two areas, each of 2^26 bytes, the size where the settings say nothing.
-const DISK_BYTES: u64 = 2 << 26;
+use std::{env, fmt, fs, io};
+use usage::usage;
+use words::are_replay;
 
 /// What stands behind the program's name.
 fn without_name(mut args: Vec<String>) -> Vec<String>
@@ -57,7 +63,7 @@ fn words_of(alloc: Global, args: Args) -> Result<Vec<String>, Status>
 }
 
 /// The words of the command line. Words that can't be read, as those that aren't UTF-8, are no command.
-fn read_words(rt: &(impl Env + AllocGlobal)) -> Result<Vec<String>, Status> {
+fn find_words(rt: &(impl Env + AllocGlobal)) -> Result<Vec<String>, Status> {
     match env::args(rt) {
         Ok(args) => words_of(rt.alloc(), args),
         Err(error) if error.kind() == ErrorKind::OutOfMemory => Err(Status::Memory),
@@ -65,64 +71,169 @@ fn read_words(rt: &(impl Env + AllocGlobal)) -> Result<Vec<String>, Status> {
     }
 }
 
-/// The text of the settings, which is empty so far.
-fn settings() -> &'static [u8]
-    ensures { result.now ≡ [] }
+/// What a file has.
+fn text_in(rt: &HostRuntime, path: &Text) -> Result<Vec<u8>, Ending>
+    ensures { IfErr result (λ ending. (ending ≡ Ending.SettingsFile) ⊎ (ending ≡ Ending.Ran Status.Memory)) }
 {
-    &[]
+    match fs::read(rt, path.as_str()) {
+        Ok(text) => Ok(text),
+        Err(error) if error.kind() == ErrorKind::OutOfMemory => Err(Ending::Ran(Status::Memory)),
+        Err(_) => Err(Ending::SettingsFile),
+    }
 }
 
-/// Runs the command that the words say, over standard input and output, and over the journal's file and the cloud's folder that they
-/// name. Where the words are refused, no file is opened.
-fn run_words(rt: &HostRuntime, alloc: Global, words: &[String]) -> Status
-    ensures words { result ≡ Status.Words → IsReplay (map string_bytes words.now) → ⊥ }
-    ensures settings { result ≢ Status.Settings }
-    ensures refused { (IsReplay (map string_bytes words.now) → ⊥) → (result ≡ Status.Words) ⊎ (result ≡ Status.Memory) }
+/// The text of the settings: that of the file which is named, and an empty one where none is.
+fn settings_text(rt: &HostRuntime, named: Option<&Text>) -> Result<Vec<u8>, Ending>
+    ensures { IfErr result (λ ending. (ending ≡ Ending.SettingsFile) ⊎ (ending ≡ Ending.Ran Status.Memory)) }
 {
-    let Ok(paths) = paths_of(alloc, words) else {
-        return Status::Memory;
+    match named {
+        Some(path) => text_in(rt, path),
+        None => Ok(Vec::new(rt.alloc())),
+    }
+}
+
+/// The bytes of a journal's file that is made by these settings: its two areas.
+fn disk_bytes(alloc: Global, settings: &[u8]) -> Result<u64, Status>
+    ensures bytes { IfOk result (λ bytes. (fields : Fields) → SaysSettings settings.now fields → bytes ≡ 2 * fields.journal_area) }
+    ensures refused { IsErrOf result Status.Settings → SaysNone settings.now }
+    ensures statuses { IfErr result (λ status. (status ≡ Status.Settings) ⊎ (status ≡ Status.Memory)) }
+{
+    match read_settings(alloc, settings) {
+        Ok(settings) => Ok(2 * settings.journal_area()),
+        Err(SettingsFault::Refused) => Err(Status::Settings),
+        Err(SettingsFault::Memory) => Err(Status::Memory),
+    }
+}
+
+/// Runs a command over standard input and output, and over the journal's file and the cloud's folder that are named. Where the text says no
+/// settings, no file is opened.
+fn run_over(
+    rt: &HostRuntime,
+    alloc: Global,
+    words: &[String],
+    paths: Paths,
+    settings: &[u8],
+) -> Status
+    ensures words { result ≡ Status.Words → Says Replay (map string_bytes words.now) → ⊥ }
+    ensures settings { result ≡ Status.Settings → SaysNone settings.now }
+{
+    let size = match disk_bytes(alloc, settings) {
+        Ok(size) => size,
+        Err(status) => return status,
     };
-    let mut site = FileSite::new(rt, paths, DISK_BYTES);
     let Ok(input) = BufReader::new(alloc, rt.stdin()) else {
         return Status::Memory;
     };
+    let mut site = FileSite::new(rt, paths, size);
     let mut source = StdinSource::new(input);
     let mut sink = StdoutSink::new(rt.stdout());
-    run(alloc, words, settings(), &mut source, &mut sink, &mut site)
+    run(alloc, words, settings, &mut source, &mut sink, &mut site)
 }
 
-/// What is said of a status on standard error, with its number.
-#[derive(Clone, Copy)]
-struct StatusLine(Status);
+/// Runs a command over the files that the words name.
+fn run_named(rt: &HostRuntime, alloc: Global, words: &[String]) -> Ending
+    ensures words { result ≡ Ending.Ran Status.Words → Says Replay (map string_bytes words.now) → ⊥ }
+{
+    let paths = match paths_of(alloc, words) {
+        Ok(paths) => paths,
+        Err(WordsFault::Refused) => return Ending::Ran(Status::Words),
+        Err(WordsFault::Memory) => return Ending::Ran(Status::Memory),
+    };
+    match settings_text(rt, paths.settings.as_ref()) {
+        Ok(settings) => Ending::Ran(run_over(rt, alloc, words, paths, &settings)),
+        Err(ending) => ending,
+    }
+}
 
-impl fmt::Display for StatusLine {
+/// Runs the command that the words say. Where they are refused, no file is opened.
+fn run_words(rt: &HostRuntime, alloc: Global, words: &[String]) -> Ending
+    ensures words { (result ≡ Ending.Ran Status.Words) ↔ (Says Replay (map string_bytes words.now) → ⊥) }
+{
+    if are_replay(words) {
+        run_named(rt, alloc, words)
+    } else {
+        Ending::Ran(Status::Words)
+    }
+}
+
+/// What is said on standard error of how the program ended, in three lines: its number, its name with what happened, and what to do.
+#[derive(Clone, Copy)]
+struct Lines(Ending);
+
+impl fmt::Display for Lines {
     fn fmt<W: fmt::Write>(&self, f: &mut fmt::Formatter<W>) -> fmt::Result {
         let number = self.0.number();
-        write!(f, "bluesky: status {number}")
+        write!(f, "bluesky: status {number}\n{}", self.0)
     }
 }
 
-/// Says a status on standard error, unless all went well.
-fn report(rt: &impl Eprint, status: Status) -> io::Result<()> {
-    if status == Status::Done {
-        Ok(())
-    } else {
-        eprintln!(rt; "{}", StatusLine(status))
+/// Says the usage on standard error. Where there's no memory for it, it is left out.
+fn report_usage(rt: &impl Eprint, alloc: Global) -> io::Result<()> {
+    match usage(alloc) {
+        Ok(text) => eprintln!(rt; "{}", text.as_str()),
+        Err(_) => Ok(()),
     }
 }
 
-/// What the process exits with: the status's number.
-fn exit_code(status: Status) -> ExitCode
-    ensures { exit_status result ≡ number_of status }
+/// Says on standard error how the program ended, unless all went well. Behind words that are refused comes the usage.
+fn report(rt: &impl Eprint, alloc: Global, ending: Ending) -> io::Result<()> {
+    match ending {
+        Ending::Ran(Status::Done) => Ok(()),
+        Ending::Ran(Status::Words) => {
+            eprintln!(rt; "{}", Lines(ending))?;
+            report_usage(rt, alloc)
+        }
+        _ => eprintln!(rt; "{}", Lines(ending)),
+    }
+}
+
+/// What the process exits with: the ending's number.
+fn exit_code(ending: Ending) -> ExitCode
+    ensures { exit_status result ≡ exit_number ending }
 {
-    ExitCode::from(status.number() as u8)
+    ExitCode::from(ending.number() as u8)
 }
+
+/// Runs the command that the words say, and tells how it ended.
+fn run_and_report(rt: &HostRuntime, words: &[String]) -> ExitCode {
+    let ending = run_words(rt, rt.alloc(), words);
+    let _ = report(rt, rt.alloc(), ending);
+    exit_code(ending)
+}
+
+/// Whether the only word is this one.
+fn is_only(words: &[String], wanted: &str) -> bool {
+    match words {
+        [word] => word.as_str() == wanted,
+        _ => false,
+    }
+}
+
+/// Answers `--help` and `--version`, alone, on standard output; runs all other words.
+fn answer(rt: &HostRuntime, words: &[String]) -> ExitCode {
+    if is_only(words, "--version") {
+        let _ = println!(rt; "bluesky {}", VERSION);
+        return ExitCode::SUCCESS;
+    }
+    if is_only(words, "--help") {
+        if let Ok(text) = usage(rt.alloc()) {
+            let _ = println!(rt; "{}", text.as_str());
+        }
+        return ExitCode::SUCCESS;
+    }
+    run_and_report(rt, words)
+}
+
+/// The version of the program.
+const VERSION: &str = "0.1.0";
 
 fn main(rt: HostRuntime) -> ExitCode {
-    let status = match read_words(&rt) {
-        Ok(words) => run_words(&rt, rt.alloc(), &words),
-        Err(status) => status,
-    };
-    let _ = report(&rt, status);
-    exit_code(status)
+    match find_words(&rt) {
+        Ok(words) => answer(&rt, &words),
+        Err(status) => {
+            let ending = Ending::Ran(status);
+            let _ = report(&rt, rt.alloc(), ending);
+            exit_code(ending)
+        }
+    }
 }

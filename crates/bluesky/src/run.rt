@@ -1,20 +1,23 @@
 //! The run of a recorded session, from its words to its status.
 
-ghost use Rattle.std.specs.Prelude.{◌≡◌, ◌<◌, ◌≤◌, ◌↔◌, ◌⊎◌, ℕ, Bool, false, true, List, [], map, string_bytes, length, Option, IfOk, IfErr, IsErr, IsErrOf, OnErr, OnOk};
+ghost use Rattle.std.specs.Prelude.{◌≡◌, ◌≢◌, ◌≤◌, ◌↔◌, ◌⊎◌, ℕ, Bool, false, true, List, [], map, string_bytes, Option, IfOk, IfErr, IsErr, IsErrOf, OnErr, OnOk};
 ghost use Rattle.sky_outside.specs.Count.{Counts, Rose};
 ghost use Rattle.sky_outside.specs.Moments.{NothingPending};
 ghost use Rattle.sky_outside.specs.Told.{WhereTold, Had, Given, GivenPart};
 ghost use Rattle.sky_recover.specs.Opening.{Found, IsFoundOn, LeavesFound, WhereBothTold};
 ghost use Rattle.sky_script.specs.Frame.{magic, out_frame};
-ghost use Rattle.sky_settings.specs.Settings.{default_fields};
+ghost use Rattle.sky_settings.specs.declared.settings.Fields.{Fields};
+ghost use Rattle.sky_settings_file.specs.Table.{SaysSettings};
 ghost use Rattle.sky_sound.specs.Boot.{Claims};
 ghost use Rattle.sky_sound.specs.Recovery.{IsSound};
 ghost use Rattle.sky_world.specs.Carried.{IsServing};
 ghost use Rattle.sky_world.specs.Meaning.{start, opening};
 ghost use Rattle.sky_world.specs.Opening.{IsOfOpening, IsRefusedAs, LeavesRefusedAs};
 ghost use Rattle.sky_world.specs.World.{ClaimsFailed, Stands, tells};
-ghost use Rattle.bluesky.specs.Words.{IsReplay};
-ghost use Rattle.bluesky.specs.Run.{Ran, RanOn, IsExact, IsOfDamage, IsReplayed, SinkCounts, session_bytes};
+ghost use Rattle.sky_words.specs.Words.{Says};
+ghost use Rattle.sky_words.specs.declared.command.Command.TheVariants.{Replay};
+ghost use Rattle.bluesky.specs.Asked.{IsUnsaid, SaysNone};
+ghost use Rattle.bluesky.specs.Run.{GaveUnopened, Ran, RanOn, IsExact, IsOfDamage, IsReplayed, SinkCounts, session_bytes};
 ghost use Rattle.bluesky.specs.Stop.{NoMagic, Opened, magic_status_of};
 
 use crate::ending::{end_failed, end_with};
@@ -24,6 +27,7 @@ use sky_base::Status;
 use sky_outside::{Failed, Sink, Site, Source, fill, write_all};
 use sky_script::{FrameBuf, FrameFault};
 use sky_settings::Settings;
+use sky_settings_file::{SettingsFault, read_settings};
 use sky_world::World;
 use std::alloc::Global;
 
@@ -177,13 +181,78 @@ fn replay<S: Source, K: Sink, P: Site>(
     }
 }
 
-/// Runs the command that the words say, `replay --journal PATH --cloud PATH`, over these devices, and
-/// says how it ended. For now the settings are an empty text.
+/// Ends a run for whose settings there was no memory: writes the magic and the last frame, and opens nothing.
+fn end_without_settings<K: Sink>(sink: &mut K) -> Status
+    ensures statuses { (result ≡ Status.Memory) ⊎ (result ≡ Status.SinkFault) }
+    ensures gave { GaveUnopened result (record {
+      before = K.written sink.old;
+      after = K.written sink.new;
+      faults_before = K.faults sink.old;
+      faults_after = K.faults sink.new;
+    }) }
+    ensures cause { SinkCounts (K.faults sink.old) (K.faults sink.new) result }
+{
+    match write_magic(sink) {
+        Ok(()) => end_with(sink, Status::Memory),
+        Err(status) => status,
+    }
+}
+
+/// Replays a recording by the settings that a text says.
+fn replay_by<S: Source, K: Sink, P: Site>(
+    alloc: Global,
+    settings: &[u8],
+    source: &mut S,
+    sink: &mut K,
+    site: &mut P,
+) -> Status
+    requires settled { NothingPending P.Storage site.old }
+    ensures words { result ≢ Status.Words }
+    ensures settings { result ≡ Status.Settings → SaysNone settings.now }
+    ensures source_untouched { (IsReplayed result → ⊥) → source.new ≡ source.old }
+    ensures sink_untouched { (IsReplayed result → ⊥) → sink.new ≡ sink.old }
+    ensures site_untouched { (IsReplayed result → ⊥) → site.new ≡ site.old }
+    ensures unsaid { SaysNone settings.now → IsUnsaid result }
+    ensures unsaid_source { SaysNone settings.now → source.new ≡ source.old }
+    ensures unsaid_sink { SaysNone settings.now → GaveUnopened result (record {
+      before = K.written sink.old;
+      after = K.written sink.new;
+      faults_before = K.faults sink.old;
+      faults_after = K.faults sink.new;
+    }) }
+    ensures unsaid_site { SaysNone settings.now → site.new ≡ site.old }
+    ensures ran { (fields : Fields) → SaysSettings settings.now fields → Ran P.Storage fields site.old site.new result
+        (record { had = S.left source.old; left = S.left source.new })
+        (record {
+          before = K.written sink.old;
+          after = K.written sink.new;
+          faults_before = K.faults sink.old;
+          faults_after = K.faults sink.new;
+        }) }
+    ensures sound { (fields : Fields) → SaysSettings settings.now fields → IsOfDamage result
+        → WhereBothTold P.Storage site.old (λ image objects. IsSound fields.volume fields.journal_area image objects → ⊥) }
+    ensures exact { IsReplayed result → WhereTold (S.left source.old) (IsExact result) }
+    ensures source_cause { Counts (S.faults source.old) (S.faults source.new) (result ≡ Status.SourceFault) }
+    ensures journal_cause { Counts (P.disk_faults site.old) (P.disk_faults site.new) (result ≡ Status.JournalFault) }
+    ensures cloud_cause { Counts (P.cloud_faults site.old) (P.cloud_faults site.new) (result ≡ Status.CloudFault) }
+    ensures sink_cause { SinkCounts (K.faults sink.old) (K.faults sink.new) result }
+    ensures size { P.bytes_of site.new ≡ P.bytes_of site.old }
+{
+    match read_settings(alloc, settings) {
+        Ok(settings) => replay(alloc, source, sink, site, settings),
+        Err(SettingsFault::Refused) => Status::Settings,
+        Err(SettingsFault::Memory) => end_without_settings(sink),
+    }
+}
+
+/// Runs the command that the words say, by the settings that a text says, over these devices, and says how it ended. So far `replay` is the one
+/// command that is done; the words of the others are refused.
 ///
 /// It writes the magic, opens the site, whatever it has, and writes the frame of the opening. Then it reads a recorded session from
 /// the source, and writes the answers to its frames, and at its end a frame that says how it ended. A change goes through the journal, and
 /// one that is to be stable is on the disk before its answer is written; what was stable is found again by the next run, and by a restart within
-/// this one. What comes is in the docs of `Status`; if it refuses the words or the settings, it reads and writes nothing.
+/// this one. What comes is in the docs of `Status`; if it refuses the words or the settings, it reads and writes nothing. Where there is no memory
+/// for reading the settings, it writes the magic and the last frame, and opens nothing.
 ///
 /// When it begins, nothing that was written to the disk may wait for a sync.
 pub fn run<S: Source, K: Sink, P: Site>(
@@ -196,17 +265,27 @@ pub fn run<S: Source, K: Sink, P: Site>(
 ) -> Status
     requires settled { NothingPending P.Storage site.old }
 
-    // The words and the settings are judged first, and nothing else is done where they are refused.
-    ensures words { (result ≡ Status.Words) ↔ (IsReplay (map string_bytes words.now) → ⊥) }
-    ensures settings { (result ≡ Status.Settings)
-        ↔ (IsReplay (map string_bytes words.now) × (0 < length settings.now)) }
+    // The words are judged first, then the settings, and nothing else is done where they are refused.
+    ensures words { (result ≡ Status.Words) ↔ (Says Replay (map string_bytes words.now) → ⊥) }
+    ensures settings { result ≡ Status.Settings → Says Replay (map string_bytes words.now) × SaysNone settings.now }
     ensures source_untouched { (IsReplayed result → ⊥) → source.new ≡ source.old }
     ensures sink_untouched { (IsReplayed result → ⊥) → sink.new ≡ sink.old }
     ensures site_untouched { (IsReplayed result → ⊥) → site.new ≡ site.old }
 
-    // What was read, what was written, and what recovery finds after a crash at any moment, by the status: the meaning of the frames that were
-    // handled, in the history that the site stood for.
-    ensures ran { Ran P.Storage default_fields site.old site.new result
+    // A text that says no settings is refused, unless the words are, or there is no memory for reading it. Nothing is opened, and nothing is read.
+    ensures unsaid { SaysNone settings.now → IsUnsaid result }
+    ensures unsaid_source { SaysNone settings.now → source.new ≡ source.old }
+    ensures unsaid_sink { SaysNone settings.now → GaveUnopened result (record {
+      before = K.written sink.old;
+      after = K.written sink.new;
+      faults_before = K.faults sink.old;
+      faults_after = K.faults sink.new;
+    }) }
+    ensures unsaid_site { SaysNone settings.now → site.new ≡ site.old }
+
+    // By the settings that the text says: what was read, what was written, and what recovery finds after a crash at any moment, by the status:
+    // the meaning of the frames that were handled, in the history that the site stood for.
+    ensures ran { (fields : Fields) → SaysSettings settings.now fields → Ran P.Storage fields site.old site.new result
         (record { had = S.left source.old; left = S.left source.new })
         (record {
           before = K.written sink.old;
@@ -216,7 +295,8 @@ pub fn run<S: Source, K: Sink, P: Site>(
         }) }
 
     // No sound site is refused for what it has.
-    ensures sound { IsOfDamage result → WhereBothTold P.Storage site.old (λ image objects. IsSound default_fields.volume default_fields.journal_area image objects → ⊥) }
+    ensures sound { (fields : Fields) → SaysSettings settings.now fields → IsOfDamage result
+        → WhereBothTold P.Storage site.old (λ image objects. IsSound fields.volume fields.journal_area image objects → ⊥) }
 
     // Each other status is the one that the bytes of the source ask for.
     ensures exact { IsReplayed result → WhereTold (S.left source.old) (IsExact result) }
@@ -235,8 +315,5 @@ pub fn run<S: Source, K: Sink, P: Site>(
     if !are_replay(words) {
         return Status::Words;
     }
-    if !settings.is_empty() {
-        return Status::Settings;
-    }
-    replay(alloc, source, sink, site, Settings::new())
+    replay_by(alloc, settings, source, sink, site)
 }

@@ -86,6 +86,9 @@ fn devices_of(alloc: Global, text: &str) -> Result<Devices, Fail> {
     Ok(devices)
 }
 
+/// The bytes of the journal's disk where the settings say nothing: two areas, each of 2^26 bytes.
+const DISK_BYTES: u64 = 2 << 26;
+
 /// A blank site of the size that the program asks for.
 fn new_site(alloc: Global, calls: Vec<FailingCall>) -> Result<SparseSite, Fail> {
     Ok(SparseSite::new(alloc, DISK_BYTES, calls)?)
@@ -369,13 +372,23 @@ fn runs_end(rt: HostRuntime) -> Result<(), Fail> {
 /// Commands that are refused, one a line: the status, the words, and the text of the settings.
 const REFUSED: &str = "\
 11|replay --journal j --cloud c|volume = 0
+11|replay --cloud c --settings s --journal j|volumes = 1
+11|replay --journal j --cloud c --settings s|journal_area = 262143
 1|replay --journal j --cloud|volume = 0
 1||
-1|replay --cloud c --journal j|
+1|replay --cloud c --journal|
+1|replay --cloud c|
 1|replay --journal  --cloud c|
 1|replay --journal j --cloud -c|
 1|Replay --journal j --cloud c|
-1|replay --journal j --cloud c x|";
+1|replay --journal j --cloud c x|
+1|replay --journal j --cloud c --journal k|
+1|replay --journal j --cloud c --listen a|
+1|clean --cloud c --steps 1|
+1|generate --journal j --cloud c --seed 1 --files 1|
+1|serve --journal j --cloud c --listen a|
+1|--help|
+1|--version|";
 
 /// Runs a command with a recording of no frames.
 fn run_empty(alloc: Global, command: (&str, &str)) -> Result<Ran, Fail> {
@@ -446,24 +459,80 @@ fn a_foreign_disk_is_refused(rt: HostRuntime) -> Result<(), Fail> {
     Ok(())
 }
 
-/// That a status is told so.
+/// How a disk with an empty journal of the volume 2 is opened, one a line: the status and its place, the words, and the settings.
+const OPENED: &str = "\
+0 0|replay --cloud c --settings s --journal j|volume = 2
+0 0|replay --settings s --cloud c --journal j|volume = 2\\njournal_area = 67108864
+9 8|replay --cloud c --journal j|
+9 8|replay --journal j --cloud c --settings s|volume = 3";
+
+/// That such a disk is opened or refused so. In the settings `\n` stands for a line end.
+fn check_opened(rt: &impl Abort, alloc: Global, line: &str) -> Result<(), Fail> {
+    let (end, rest) = line.split_once('|').ok_or("no status")?;
+    let (words, settings) = rest.split_once('|').ok_or("no words")?;
+    let settings = settings.replace(alloc, "\\n", "\n")?;
+    let disk = bytes_of_words(alloc, "01000000 8*00 00000002")?;
+    let bytes = bytes_of(alloc, "raw magic; 99")?;
+    let mut site = new_site(alloc, Vec::new(alloc))?;
+    put_disk(&mut site, &disk)?;
+    let command = (words, settings.as_str());
+    let ran = run_text(alloc, command, &bytes, Devices::new(alloc), &mut site)?;
+    let (number, place) = end.split_once(' ').ok_or("no place")?;
+    let holds = ran.number == number.parse::<u32>()? && ran.place == place.parse::<u64>()?;
+    assert!(rt; holds, "of {line}: {} {}", ran.number, ran.place);
+    Ok(())
+}
+
+#[test]
+fn a_site_is_opened_by_the_settings(rt: HostRuntime) -> Result<(), Fail> {
+    for line in OPENED.lines() {
+        check_opened(&rt, rt.alloc(), line)?;
+    }
+    Ok(())
+}
+
+/// That a status is told so, in lines that begin like this.
 fn check_said(rt: &impl Abort, alloc: Global, status: Status, line: &str) -> Result<(), Fail> {
-    let said = StatusLine(status).to_string(alloc)?;
-    let holds = said.as_str() == line;
+    let said = Lines(Ending::Ran(status)).to_string(alloc)?;
+    let holds = said.as_str().starts_with(line) && said.as_str().lines().count() == 3;
     assert!(rt; holds, "{line}");
+    Ok(())
+}
+
+/// The usage.
+const USAGE: &str = "\
+Replays a recorded session: reads it from standard input, and writes the answers to standard output.
+
+Usage: bluesky replay [OPTIONS] --journal <PATH> --cloud <PATH>
+
+Options:
+      --journal <PATH>   The journal's file. Where it is missing, it is made
+      --cloud <PATH>     The cloud's folder. Where it is missing, it is made
+      --settings <PATH>  A file of settings in TOML, as volume = 1
+";
+
+#[test]
+fn the_usage_names_each_option(rt: HostRuntime) -> Result<(), Fail> {
+    let text = usage(rt.alloc())?;
+    assert!(rt; text.as_str() == USAGE, "{}", text.as_str());
     Ok(())
 }
 
 #[test]
 fn a_status_is_told_by_its_number(rt: HostRuntime) -> Result<(), Fail> {
-    check_said(&rt, rt.alloc(), Status::Words, "bluesky: status 1")?;
+    check_said(&rt, rt.alloc(), Status::Words, "bluesky: status 1\nWords: ")?;
     check_said(
         &rt,
         rt.alloc(),
         Status::Malformed { at: 8 },
-        "bluesky: status 2",
+        "bluesky: status 2\nMalformed: at byte 8 of ",
     )?;
-    check_said(&rt, rt.alloc(), Status::Settings, "bluesky: status 11")
+    check_said(
+        &rt,
+        rt.alloc(),
+        Status::Settings,
+        "bluesky: status 11\nSettings: ",
+    )
 }
 
 /// The recording of 160 WRITEs of 65,536 bytes and a COMMIT.

@@ -26,15 +26,15 @@ use Rattle.sky_nfs.proofs.ValidityLemmas.{SameShape, put_valid, each-node_at}
 -- none of the tests is true
 abbrev pub AllPassed : Rules → Type 0
 AllPassed [] = Unit {0}
-AllPassed (rule ∷ rules) = (rule.1 ≡ false) × AllPassed rules
+AllPassed (rule ∷ rules) = (rule.0 ≡ false) × AllPassed rules
 
 pub passed : (rules : Rules) → first_of rules ≡ None → AllPassed rules
 passed [] e = tt
-passed (rule ∷ rules) e = go rule.1 refl (passed rules)
+passed (rule ∷ rules) e = go rule.0 refl (passed rules)
   where
-    go : (b : Bool) → rule.1 ≡ b → (first_of rules ≡ None → AllPassed rules) → (rule.1 ≡ false) × AllPassed rules
+    go : (b : Bool) → rule.0 ≡ b → (first_of rules ≡ None → AllPassed rules) → (rule.0 ≡ false) × AllPassed rules
     go true h rest =
-        let found : Some rule.2 ≡ None = rw h at e in
+        let found : Some rule.1 ≡ None = rw h at e in
         absurd (cc)
     go false h rest =
         let none : first_of rules ≡ None = rw h at e in

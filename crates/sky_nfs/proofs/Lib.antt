@@ -1,5 +1,4 @@
 mod Checks
-pub mod AlikeLemmas
 pub mod CarryLemmas
 pub mod CreateLemmas
 pub mod DropLemmas
@@ -8,7 +7,6 @@ pub mod GrowLemmas
 pub mod HandleLemmas
 pub mod KeptLemmas
 pub mod LinkLemmas
-pub mod LookLemmas
 pub mod MoveLemmas
 pub mod ProcedureLemmas
 pub mod RemoveLemmas

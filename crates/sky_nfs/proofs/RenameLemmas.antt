@@ -121,8 +121,8 @@ release_content t now dir g k e = go (is_directory (the_node t g)) (nat_le (the_
     go false false = edit_content t g (λ n. stamp now (drop_link n)) k (λ n. refl)
 
 -- the target goes as REMOVE or RMDIR has it
-cleared : (t : Tree) (now : Moment) (to : ℕ) (name : List ℕ) (dt : Node) (moved : ℕ) (room : Rules) → IsValidTree t → node_at t.nodes to ≡ Some dt → is_directory dt ≡ true → (o : Option ℕ) → named t to name ≡ o → AllPassed (target_rules t moved o ++ room) → Cleared t (remove_name t now to name) to name o × AllPassed room
-cleared t now to name dt moved room v at directory None e p = (
+cleared : (t : Tree) (now : Moment) (to : ℕ) (name : List ℕ) (dt source : Node) (room : Rules) → IsValidTree t → node_at t.nodes to ≡ Some dt → is_directory dt ≡ true → (o : Option ℕ) → named t to name ≡ o → AllPassed (target_rules t source o ++ room) → Cleared t (remove_name t now to name) to name o × AllPassed room
+cleared t now to name dt source room v at directory None e p = (
   rw e (record {
     valid = v;
     content = λ k away. go k (to == k) refl;
@@ -134,7 +134,7 @@ cleared t now to name dt moved room v at directory None e p = (
     go : (k : ℕ) (b : Bool) → (to == k) ≡ b → (the_node t k).content ≡ cond b (with_listing (λ l. without_entry l name) (the_node t k).content) (the_node t k).content
     go k true i = subst (λ (j : ℕ). (the_node t j).content ≡ with_listing (λ l. without_entry l name) (the_node t j).content) (eqb-true to k i) (sym (unchanged (the_node t to).content name (not_found (entries (the_node t to)) name e)))
     go k false i = refl
-cleared t now to name dt moved room v at directory (Some g) e p = (
+cleared t now to name dt source room v at directory (Some g) e p = (
   record {
     valid = removed (is_directory a) refl;
     content = λ k away. left k (ne_eqb g k (λ same. away (ap Some same)));
@@ -249,8 +249,8 @@ module _ (t c : Tree) (to : ℕ) (name : List ℕ) (o : Option ℕ) (v : IsValid
 move_valid : (t : Tree) (now : Moment) (from : ℕ) (from_name : List ℕ) (to : ℕ) (to_name : List ℕ) (f : ℕ) (df dt : Node) → IsValidTree t → node_at t.nodes from ≡ Some df → is_directory df ≡ true → node_at t.nodes to ≡ Some dt → is_directory dt ≡ true → named t from from_name ≡ Some f → is_same (Some f) (named t to to_name) ≡ false → length to_name ≤ max_name_bytes → AllPassed (move_rules t from from_name to to_name f) → IsValidTree (move_name t now from from_name to to_name f)
 move_valid t now from from_name to to_name f df dt v at_from from_directory at_to to_directory found differ short p = done
   where
-    both : Cleared t (remove_name t now to to_name) to to_name (named t to to_name) × AllPassed (entry_room_rules to (staying t from from_name to to_name) to_name)
-    both = cleared t now to to_name dt f (entry_room_rules to (staying t from from_name to to_name) to_name) v at_to to_directory (named t to to_name) refl p.1
+    both : Cleared t (remove_name t now to to_name) to to_name (named t to to_name) × AllPassed (entry_room_rules (staying t from from_name to to_name) to_name)
+    both = cleared t now to to_name dt (the_node t f) (entry_room_rules (staying t from from_name to to_name) to_name) v at_to to_directory (named t to to_name) refl p.1
 
     g : Cleared t (remove_name t now to to_name) to to_name (named t to to_name)
     g = both.0

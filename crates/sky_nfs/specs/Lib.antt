@@ -3,7 +3,6 @@ pub mod Changes
 pub mod Handles
 pub mod History
 pub mod Laws
-pub mod Needs
 pub mod NfsStatus
 pub mod Procedure
 pub mod Procedures

@@ -1,5 +1,5 @@
--- The rules of refusal that several procedures share. A rule names the fileids of the nodes that it looks at, and has a test
--- and the status that it gives where the test is true. A procedure's rules are tried in the order in which they stand.
+-- The rules of refusal that several procedures share. A rule is a test, and the status that it gives where it is true.
+-- A procedure's rules are tried in the order in which they stand.
 use Rattle.std.specs.Prelude.{ℕ, ◌+◌, ◌^◌, Bool, false, cond, not, ◌||◌, ◌==◌, nat_lt, nat_le, List, [], ◌∷◌, ◌++◌, length, Option, Some, None, is_some}
 use Rattle.std.specs.List.{list_any}
 use Rattle.std.specs.Str.{bytes_eq}
@@ -16,26 +16,20 @@ use Rattle.sky_nfs.specs.declared.status.NfsStatus.TheVariants.{Stale, BadHandle
 use Rattle.sky_nfs.specs.Tree.{Tree, node_at, the_node, attributes_at, is_directory, listing_of}
 use Rattle.sky_nfs.specs.Handles.{is_handle_of, fileid_in}
 
--- rules in the order in which they are tried: what each looks at, its test and its status.
--- The volume's number, the next fileid and how many nodes there are is looked at without a node
+-- rules in the order in which they are tried
 abbrev pub Rules : Type 0
-Rules = List (List ℕ × Bool × NfsStatus)
+Rules = List (Bool × NfsStatus)
 
 -- the status of the first rule whose test is true; none where nothing is refused
 abbrev pub first_of : Rules → Option NfsStatus
 first_of [] = None
-first_of (rule ∷ rules) = cond rule.1 (Some rule.2) (first_of rules)
-
--- the nodes that the rules look at, up to the one that decides
-abbrev pub looked_at_by : Rules → List ℕ
-looked_at_by [] = []
-looked_at_by (rule ∷ rules) = rule.0 ++ cond rule.1 [] (looked_at_by rules)
+first_of (rule ∷ rules) = cond rule.0 (Some rule.1) (first_of rules)
 
 -- a handle that isn't this volume's is BADHANDLE; one whose node is gone is STALE
 abbrev pub handle_rules : Tree → List ℕ → Rules
 handle_rules t fh =
-    ([], not (is_handle_of t.volume fh), BadHandle) ∷
-    (fileid_in fh ∷ [], not (is_some (node_at t.nodes (fileid_in fh))), Stale) ∷ []
+    (not (is_handle_of t.volume fh), BadHandle) ∷
+    (not (is_some (node_at t.nodes (fileid_in fh))), Stale) ∷ []
 
 -- whether no directory stands at a fileid
 abbrev pub is_no_directory : Tree → ℕ → Bool
@@ -43,7 +37,7 @@ is_no_directory t fileid = not (is_directory (the_node t fileid))
 
 -- a handle of a directory
 abbrev pub directory_rules : Tree → List ℕ → Rules
-directory_rules t fh = handle_rules t fh ++ (fileid_in fh ∷ [], is_no_directory t (fileid_in fh), NotDir) ∷ []
+directory_rules t fh = handle_rules t fh ++ (is_no_directory t (fileid_in fh), NotDir) ∷ []
 
 -- the name of the directory itself
 abbrev pub dot : List ℕ
@@ -76,8 +70,8 @@ is_bad_name name = length name == 0 || has_byte 47 name || has_byte 0 name
 -- a name as it may stand in a call
 abbrev pub name_rules : List ℕ → Rules
 name_rules name =
-    ([], nat_lt max_name_bytes (length name), NameTooLong) ∷
-    ([], is_bad_name name, Acces) ∷ []
+    (nat_lt max_name_bytes (length name), NameTooLong) ∷
+    (is_bad_name name, Acces) ∷ []
 
 -- whether a caller lacks a right
 abbrev pub lacks : Tree → Cred → ℕ → Want → Bool
@@ -113,15 +107,15 @@ is_too_big (Some size) = nat_lt max_file_bytes size
 -- room for a new node
 abbrev pub node_room_rules : Tree → Rules
 node_room_rules t =
-    ([], nat_le max_nodes (length t.nodes), NoSpc) ∷
-    ([], nat_le max_fileid t.next_fileid, NoSpc) ∷ []
+    (nat_le max_nodes (length t.nodes), NoSpc) ∷
+    (nat_le max_fileid t.next_fileid, NoSpc) ∷ []
 
--- room for an entry in a directory with this listing
-abbrev pub entry_room_rules : ℕ → Listing → List ℕ → Rules
-entry_room_rules dir l name =
-    (dir ∷ [], nat_lt max_directory_bytes (size_of_listing l + size_of_name name), NoSpc) ∷
-    (dir ∷ [], nat_le max_cookie l.next_cookie, NoSpc) ∷ []
+-- room for an entry in a listing
+abbrev pub entry_room_rules : Listing → List ℕ → Rules
+entry_room_rules l name =
+    (nat_lt max_directory_bytes (size_of_listing l + size_of_name name), NoSpc) ∷
+    (nat_le max_cookie l.next_cookie, NoSpc) ∷ []
 
 -- room for a new node under a name of a directory
 abbrev pub new_room_rules : Tree → ℕ → List ℕ → Rules
-new_room_rules t dir name = node_room_rules t ++ entry_room_rules dir (listing_of (the_node t dir)) name
+new_room_rules t dir name = node_room_rules t ++ entry_room_rules (listing_of (the_node t dir)) name

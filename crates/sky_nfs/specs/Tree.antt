@@ -196,11 +196,6 @@ abbrev pub ancestors : Tree → ℕ → ℕ → List ℕ
 ancestors t zero dir = []
 ancestors t (suc n) dir = dir ∷ ancestors t n (parent_of (the_node t dir))
 
--- the way from a directory up to the one that is looked for, as far as it is walked
-abbrev pub way_up : Tree → ℕ → ℕ → ℕ → List ℕ
-way_up t zero dir above = []
-way_up t (suc n) dir above = cond (dir == above) [] (dir ∷ way_up t n (parent_of (the_node t dir)) above)
-
 -- whether a directory is another one, or lies below it. No way up is longer than there are nodes
 abbrev pub is_at_or_below : Tree → ℕ → ℕ → Bool
 is_at_or_below t dir above = list_any (λ d. d == above) (ancestors t (length t.nodes) dir)

@@ -45,7 +45,7 @@ bare_apart t g dir name f bare is found same =
     absurd (cc)
 
 target_apart : (t : Tree) (from : ℕ) (from_name : List ℕ) (to : ℕ) (to_name : List ℕ) (f : ℕ) (room : Rules) → is_directory (the_node t from) ≡ true → is_directory (the_node t to) ≡ true → named t from from_name ≡ Some f
-    → (o : Option ℕ) → named t to to_name ≡ o → is_same (Some f) o ≡ false → AllPassed (target_rules t f o ++ room) → IfSome o (λ old. (old ≢ to) × (old ≢ from) × (old ≢ f))
+    → (o : Option ℕ) → named t to to_name ≡ o → is_same (Some f) o ≡ false → AllPassed (target_rules t (the_node t f) o ++ room) → IfSome o (λ old. (old ≢ to) × (old ≢ from) × (old ≢ f))
 target_apart t from from_name to to_name f room from_is to_is found None e differ p = tt
 target_apart t from from_name to to_name f room from_is to_is found (Some g) e differ p = (
   bare_apart t g to to_name g p.1.0 to_is e,
@@ -53,9 +53,9 @@ target_apart t from from_name to to_name f room from_is to_is found (Some g) e d
   λ same. false≢true (sym differ ∙ eq-eqb f g (sym same)),
 )
 
-room_left : (t : Tree) (moved : ℕ) (room : Rules) (o : Option ℕ) → AllPassed (target_rules t moved o ++ room) → AllPassed room
-room_left t moved room None p = p
-room_left t moved room (Some g) p = p.1.1
+room_left : (t : Tree) (source : Node) (room : Rules) (o : Option ℕ) → AllPassed (target_rules t source o ++ room) → AllPassed room
+room_left t source room None p = p
+room_left t source room (Some g) p = p.1.1
 
 -- one name of a directory doesn't stand for two nodes
 names_differ : (t : Tree) (from : ℕ) (from_name : List ℕ) (to : ℕ) (to_name : List ℕ) (f : ℕ) → named t from from_name ≡ Some f → is_same (Some f) (named t to to_name) ≡ false → from ≡ to → bytes_eq to_name from_name ≡ false
@@ -79,10 +79,10 @@ staying-cookie t from from_name to to_name = go (from == to)
 moves : (t : Tree) (from : ℕ) (from_name : List ℕ) (to : ℕ) (to_name : List ℕ) (f : ℕ) (df dt : Node) → IsValidTree t → node_at t.nodes from ≡ Some df → is_directory df ≡ true → node_at t.nodes to ≡ Some dt → is_directory dt ≡ true
     → named t from from_name ≡ Some f → is_same (Some f) (named t to to_name) ≡ false → AllPassed (move_rules t from from_name to to_name f) → Moves t from from_name to to_name f
 moves t from from_name to to_name f df dt v at_from from_directory at_to to_directory found differ p =
-    let room : Rules = entry_room_rules to (staying t from from_name to to_name) to_name in
+    let room : Rules = entry_room_rules (staying t from from_name to to_name) to_name in
     let the_from : is_directory (the_node t from) ≡ true = ap (λ (o : Option Node). is_directory (unwrap_or o no_node)) at_from ∙ from_directory in
     let the_to : is_directory (the_node t to) ≡ true = ap (λ (o : Option Node). is_directory (unwrap_or o no_node)) at_to ∙ to_directory in
-    let left : AllPassed room = room_left t f room (named t to to_name) p.1 in
+    let left : AllPassed room = room_left t (the_node t f) room (named t to to_name) p.1 in
     let cookie : (staying t from from_name to to_name).next_cookie < max_cookie = leb-false max_cookie _ left.1.0 in
     let within : size_of_listing (listing_of dt) ≤ max_directory_bytes = size_within dt.content (each-node_at (λ k n. is_within n.content) t.nodes to dt v.contents_within at_to) in
     record {

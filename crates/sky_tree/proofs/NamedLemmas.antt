@@ -18,7 +18,7 @@ use Rattle.sky_tree.proofs.RuleLemmas.{refused_by, passed_by, refuses, passes}
 
 -- a link's text
 abbrev pub text_rules : List ℕ → Rules
-text_rules text = ([], nat_lt max_link_text_bytes (length text), NameTooLong) ∷ ([], has_byte 0 text, Inval) ∷ []
+text_rules text = (nat_lt max_link_text_bytes (length text), NameTooLong) ∷ (has_byte 0 text, Inval) ∷ []
 
 -- a new directory or link
 abbrev pub object_rules : Tree → Cred → ℕ → List ℕ → SetAttr → Rules
@@ -42,11 +42,11 @@ symlink_made t cred at set text dir name piece d n p h short fits x made =
 
 -- the two names that no directory gives up
 abbrev pub dots_rules : List ℕ → Rules
-dots_rules name = ([], is_dot name, Inval) ∷ ([], is_dot_dot name, Exist) ∷ []
+dots_rules name = (is_dot name, Inval) ∷ (is_dot_dot name, Exist) ∷ []
 
 -- what is no directory, and a directory that has entries
 abbrev pub emptied_rules : Tree → ℕ → Rules
-emptied_rules t fileid = ([], not (is_directory (the_node t fileid)), NotDir) ∷ ([], has_entries (the_node t fileid), NotEmpty) ∷ []
+emptied_rules t fileid = (not (is_directory (the_node t fileid)), NotDir) ∷ (has_entries (the_node t fileid), NotEmpty) ∷ []
 
 pub rmdir_refused : (t : Tree) (cred : Cred) (at : DirOpArgs) (e : NfsStatus) → Some e ≡ first_of (directory_rules t at.directory) → Some e ≡ refusal_of t cred (Call.Rmdir at)
 unfolding refusal_of rules_of
@@ -76,11 +76,11 @@ rmdir_emptied t cred at dir name fileid d n h short plain old found =
 
 -- what is a directory
 abbrev pub kept_rules : Tree → Option ℕ → Rules
-kept_rules t found = ([], is_directory (the_node t (unwrap_or found 0)), IsDir) ∷ []
+kept_rules t found = (is_directory (the_node t (unwrap_or found 0)), IsDir) ∷ []
 
 -- the two names that are directories
 abbrev pub plain_rules : List ℕ → Rules
-plain_rules name = ([], is_dots name, IsDir) ∷ []
+plain_rules name = (is_dots name, IsDir) ∷ []
 
 pub remove_refused : (t : Tree) (cred : Cred) (at : DirOpArgs) (e : NfsStatus) → Some e ≡ first_of (directory_rules t at.directory) → Some e ≡ refusal_of t cred (Call.Remove at)
 unfolding refusal_of rules_of
@@ -99,17 +99,17 @@ remove_plain t cred at dir name d n h short =
     sym (passed_by (name_rules name) (plain_rules name ++ old_name_rules t cred dir name ++ kept_rules t (named t dir name)) short) ∙ remove_named t cred at dir name d n h
 
 pub remove_dotted : (t : Tree) (cred : Cred) (at : DirOpArgs) (dir : ℕ) (name : List ℕ) → dir ≡ fileid_in at.directory → name ≡ at.name → None ≡ first_of (directory_rules t at.directory) → None ≡ first_of (name_rules name)
-    → (b : Bool) (e : NfsStatus) → b ≡ is_dots name → Some e ≡ first_of (([], b, IsDir) ∷ []) → Some e ≡ refusal_of t cred (Call.Remove at)
+    → (b : Bool) (e : NfsStatus) → b ≡ is_dots name → Some e ≡ first_of ((b, IsDir) ∷ []) → Some e ≡ refusal_of t cred (Call.Remove at)
 remove_dotted t cred at dir name d n h short b e is dotted =
     refused_by (plain_rules name) (old_name_rules t cred dir name ++ kept_rules t (named t dir name)) e (refuses b (is_dots name) IsDir e None is dotted) ∙ remove_plain t cred at dir name d n h short
 
 pub remove_old : (t : Tree) (cred : Cred) (at : DirOpArgs) (dir : ℕ) (name : List ℕ) → dir ≡ fileid_in at.directory → name ≡ at.name → None ≡ first_of (directory_rules t at.directory) → None ≡ first_of (name_rules name)
-    → (b : Bool) → b ≡ is_dots name → None ≡ first_of (([], b, IsDir) ∷ []) → first_of (old_name_rules t cred dir name ++ kept_rules t (named t dir name)) ≡ refusal_of t cred (Call.Remove at)
+    → (b : Bool) → b ≡ is_dots name → None ≡ first_of ((b, IsDir) ∷ []) → first_of (old_name_rules t cred dir name ++ kept_rules t (named t dir name)) ≡ refusal_of t cred (Call.Remove at)
 remove_old t cred at dir name d n h short b is plain =
     sym (passed_by (plain_rules name) (old_name_rules t cred dir name ++ kept_rules t (named t dir name)) (passes b (is_dots name) IsDir None None is plain refl)) ∙ remove_plain t cred at dir name d n h short
 
 pub remove_kept : (t : Tree) (cred : Cred) (at : DirOpArgs) (dir : ℕ) (name : List ℕ) → dir ≡ fileid_in at.directory → name ≡ at.name → None ≡ first_of (directory_rules t at.directory) → None ≡ first_of (name_rules name)
-    → (b : Bool) → b ≡ is_dots name → None ≡ first_of (([], b, IsDir) ∷ []) → None ≡ first_of (old_name_rules t cred dir name) → (fileid : ℕ) → named t dir name ≡ Some fileid
-    → (kept : Bool) → kept ≡ is_directory (the_node t fileid) → first_of (([], kept, IsDir) ∷ []) ≡ refusal_of t cred (Call.Remove at)
+    → (b : Bool) → b ≡ is_dots name → None ≡ first_of ((b, IsDir) ∷ []) → None ≡ first_of (old_name_rules t cred dir name) → (fileid : ℕ) → named t dir name ≡ Some fileid
+    → (kept : Bool) → kept ≡ is_directory (the_node t fileid) → first_of ((kept, IsDir) ∷ []) ≡ refusal_of t cred (Call.Remove at)
 remove_kept t cred at dir name d n h short b is plain old fileid found kept stays =
     rw stays (sym (ap (λ (o : Option ℕ). first_of (kept_rules t o)) found) ∙ sym (passed_by (old_name_rules t cred dir name) (kept_rules t (named t dir name)) old) ∙ remove_old t cred at dir name d n h short b is plain)

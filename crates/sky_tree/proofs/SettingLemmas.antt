@@ -16,23 +16,23 @@ use Rattle.sky_tree.proofs.RuleLemmas.{refused_by, passed_by}
 -- those on the times, the mode and the owners
 abbrev pub owned : Tree → Cred → ℕ → SetAttr → Rules
 owned t cred fileid set =
-    ([], has_bad_time set, Inval) ∷
-    ([], is_some set.mode && is_stranger t cred fileid, Perm) ∷
-    ([], may_not_set_owners cred (the_node t fileid).uid (the_node t fileid).gid set, Perm) ∷ []
+    (has_bad_time set, Inval) ∷
+    (is_some set.mode && is_stranger t cred fileid, Perm) ∷
+    (may_not_set_owners cred (the_node t fileid).uid (the_node t fileid).gid set, Perm) ∷ []
 
 -- those on the size
 abbrev pub sized : Tree → Cred → ℕ → SetAttr → Rules
 sized t cred fileid set =
-    ([], is_some set.size && is_directory (the_node t fileid), IsDir) ∷
-    ([], is_some set.size && is_link (the_node t fileid), Inval) ∷
-    ([], is_some set.size && lacks_unless_owner t cred fileid Write, Acces) ∷
-    ([], is_too_big set.size, FBig) ∷ []
+    (is_some set.size && is_directory (the_node t fileid), IsDir) ∷
+    (is_some set.size && is_link (the_node t fileid), Inval) ∷
+    (is_some set.size && lacks_unless_owner t cred fileid Write, Acces) ∷
+    (is_too_big set.size, FBig) ∷ []
 
 -- those on whose the times are
 abbrev pub timed : Tree → Cred → ℕ → SetAttr → Rules
 timed t cred fileid set =
-    ([], (is_client_time set.atime || is_client_time set.mtime) && is_stranger t cred fileid, Perm) ∷
-    ([], (is_server_time set.atime || is_server_time set.mtime) && is_stranger t cred fileid && lacks t cred fileid Write, Acces) ∷ []
+    ((is_client_time set.atime || is_client_time set.mtime) && is_stranger t cred fileid, Perm) ∷
+    ((is_server_time set.atime || is_server_time set.mtime) && is_stranger t cred fileid && lacks t cred fileid Write, Acces) ∷ []
 
 pub owned_refused : (t : Tree) (cred : Cred) (fileid : ℕ) (set : SetAttr) (e : NfsStatus) → Some e ≡ first_of (owned t cred fileid set) → Some e ≡ first_of (setting_rules t cred fileid set)
 owned_refused t cred fileid set e h = refused_by (owned t cred fileid set) (sized t cred fileid set ++ timed t cred fileid set) e h

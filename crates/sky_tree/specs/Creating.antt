@@ -15,8 +15,8 @@ abbrev pub place_rules : Tree → Cred → DirOpArgs → Rules
 place_rules t cred at =
     directory_rules t at.directory ++
     name_rules at.name ++
-    ([], is_dots at.name, Exist) ∷
-    (fileid_in at.directory ∷ [], lacks t cred (fileid_in at.directory) Execute, Acces) ∷ []
+    (is_dots at.name, Exist) ∷
+    (lacks t cred (fileid_in at.directory) Execute, Acces) ∷ []
 
 -- those that do: it stands for a node, or for none
 abbrev pub use_rules : Tree → Cred → CreateHow → ℕ → List ℕ → Option ℕ → Rules

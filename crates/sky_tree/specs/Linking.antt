@@ -13,13 +13,13 @@ abbrev pub link_object_rules : Tree → List ℕ → List ℕ → Rules
 link_object_rules t file directory =
     handle_rules t file ++
     handle_rules t directory ++
-    (fileid_in directory ∷ [], is_no_directory t (fileid_in directory), NotDir) ∷
-    (fileid_in file ∷ [], is_directory (the_node t (fileid_in file)), Inval) ∷ []
+    (is_no_directory t (fileid_in directory), NotDir) ∷
+    (is_directory (the_node t (fileid_in file)), Inval) ∷ []
 
 -- those on the new name
 abbrev pub link_name_rules : Tree → Cred → ℕ → ℕ → List ℕ → Rules
 link_name_rules t cred fileid dir name =
     name_rules name ++
     new_name_rules t cred dir name ++
-    (fileid ∷ [], nat_le max_links (the_node t fileid).nlink, MLink) ∷
-    entry_room_rules dir (listing_of (the_node t dir)) name
+    (nat_le max_links (the_node t fileid).nlink, MLink) ∷
+    entry_room_rules (listing_of (the_node t dir)) name

@@ -33,5 +33,5 @@ size_fits_in (NamesPlus dircount maxcount) entries bytes =
 abbrev pub listing_rules : Tree → Cred → List ℕ → ℕ → List ℕ → Rules
 listing_rules t cred directory cookie verifier =
     directory_rules t directory ++
-    (fileid_in directory ∷ [], lacks t cred (fileid_in directory) Read, Acces) ∷
-    ([], is_bad_cookie cookie verifier, BadCookie) ∷ []
+    (lacks t cred (fileid_in directory) Read, Acces) ∷
+    (is_bad_cookie cookie verifier, BadCookie) ∷ []

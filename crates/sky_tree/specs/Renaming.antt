@@ -13,24 +13,24 @@ abbrev pub rename_place_rules : Tree → List ℕ → List ℕ → Rules
 rename_place_rules t from to =
     handle_rules t from ++
     handle_rules t to ++
-    (fileid_in from ∷ [], is_no_directory t (fileid_in from), NotDir) ∷
-    (fileid_in to ∷ [], is_no_directory t (fileid_in to), NotDir) ∷ []
+    (is_no_directory t (fileid_in from), NotDir) ∷
+    (is_no_directory t (fileid_in to), NotDir) ∷ []
 
 -- those on the two names
 abbrev pub rename_name_rules : List ℕ → List ℕ → Rules
 rename_name_rules from_name to_name =
     name_rules from_name ++
     name_rules to_name ++
-    ([], is_dots from_name || is_dots to_name, Inval) ∷ []
+    (is_dots from_name || is_dots to_name, Inval) ∷ []
 
 -- those on what the caller may do, and on whether the old name stands for a node
 abbrev pub rename_source_rules : Tree → Cred → ℕ → List ℕ → ℕ → Rules
 rename_source_rules t cred from name to =
-    (from ∷ [], lacks t cred from Execute, Acces) ∷
-    (from ∷ [], lacks t cred from Write, Acces) ∷
-    (to ∷ [], lacks t cred to Execute, Acces) ∷
-    (to ∷ [], lacks t cred to Write, Acces) ∷
-    (from ∷ [], is_none (named t from name), NoEnt) ∷ []
+    (lacks t cred from Execute, Acces) ∷
+    (lacks t cred from Write, Acces) ∷
+    (lacks t cred to Execute, Acces) ∷
+    (lacks t cred to Write, Acces) ∷
+    (is_none (named t from name), NoEnt) ∷ []
 
 -- those on the move: none where both names stand for one node
 abbrev pub rename_target_rules : Tree → ℕ → List ℕ → ℕ → List ℕ → Rules

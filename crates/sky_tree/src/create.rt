@@ -71,7 +71,7 @@ fn has_nul(text: &[u8]) -> bool
 
 /// A text that a symbolic link can have.
 fn check_text(text: &[u8]) -> Result<(), NfsStatus>
-    ensures { result_err result ≡ first_of (([], nat_lt max_link_text_bytes (length text.now), NameTooLong) ∷ ([], has_byte 0 text.now, Inval) ∷ []) }
+    ensures { result_err result ≡ first_of ((nat_lt max_link_text_bytes (length text.now), NameTooLong) ∷ (has_byte 0 text.now, Inval) ∷ []) }
 {
     refuse_if(text.len() > MAX_TEXT, NfsStatus::NameTooLong)?;
     refuse_if(has_nul(text), NfsStatus::Inval)

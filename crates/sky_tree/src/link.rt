@@ -58,7 +58,7 @@ fn check_link_name(
     check_name(name)?;
     check_new_name(nodes, cred, dir, name)?;
     refuse_if(node(nodes, fileid).nlink() >= MAX_LINKS, NfsStatus::MLink)?;
-    check_entry_room(nodes, dir, name)
+    check_entry_room(node(nodes, dir), name)
 }
 
 /// The file and the directory of a LINK, or why it is refused.

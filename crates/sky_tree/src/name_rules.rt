@@ -9,7 +9,7 @@ ghost use Rattle.sky_nfs.specs.Tree.{is_directory, listing_of, node_at, the_node
 use crate::rules::{is_dots, lacks, node, refuse_if};
 use sky_base::{Cred, Name, NoMemory, Want};
 use sky_nfs::{Bytes, NfsStatus};
-use sky_nodes::Nodes;
+use sky_nodes::{Node, Nodes};
 use std::alloc::Global;
 
 /// The most nodes of a volume.
@@ -38,12 +38,11 @@ fn check_node_room(nodes: &Nodes) -> Result<(), NfsStatus>
 }
 
 /// Room for an entry in a directory.
-pub fn check_entry_room(nodes: &Nodes, dir: u64, name: &[u8]) -> Result<(), NfsStatus>
-    requires there { IsSome (node_at nodes.now.nodes dir) }
-    requires directory { is_directory (the_node nodes.now dir) ≡ true }
-    ensures { result_err result ≡ first_of (entry_room_rules dir (listing_of (the_node nodes.now dir)) name.now) }
+pub fn check_entry_room(directory: &Node, name: &[u8]) -> Result<(), NfsStatus>
+    requires { is_directory directory.now ≡ true }
+    ensures { result_err result ≡ first_of (entry_room_rules (listing_of directory.now) name.now) }
 {
-    refuse_if(node(nodes, dir).is_crowded(name), NfsStatus::NoSpc)
+    refuse_if(directory.is_crowded(name), NfsStatus::NoSpc)
 }
 
 /// Room for a new node under a name of a directory.
@@ -53,7 +52,7 @@ pub fn check_new_room(nodes: &Nodes, dir: u64, name: &[u8]) -> Result<(), NfsSta
     ensures { result_err result ≡ first_of (new_room_rules nodes.now dir name.now) }
 {
     check_node_room(nodes)?;
-    check_entry_room(nodes, dir, name)
+    check_entry_room(node(nodes, dir), name)
 }
 
 /// The name of a new entry, which has at most 255 bytes. `NoMemory` where there is no memory for it.

@@ -80,7 +80,7 @@ fn page_behind<'a>(
 ) -> Result<Result<Page<'a>, NfsStatus>, NoMemory>
     requires there { IsSome (node_at nodes.now.nodes dir) }
     requires directory { is_directory (the_node nodes.now dir) ≡ true }
-    ensures refused { IfOk result (λ r. result_err r ≡ first_of (([], is_too_small (fits_in allowed) (left_behind nodes.now dir cookie), TooSmall) ∷ [])) }
+    ensures refused { IfOk result (λ r. result_err r ≡ first_of ((is_too_small (fits_in allowed) (left_behind nodes.now dir cookie), TooSmall) ∷ [])) }
     ensures memory { OnErr result (is_too_small (fits_in allowed) (left_behind nodes.now dir cookie) ≡ false) }
     ensures entries { IfOk result (λ r. IfOk r (λ page. map listed_of page.entries.items ≡ longest (fits_in allowed) [] (left_behind nodes.now dir cookie))) }
     ensures eof { IfOk result (λ r. IfOk r (λ page. page.eof ≡ (length page.entries.items == length (left_behind nodes.now dir cookie)))) }

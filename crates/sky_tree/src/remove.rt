@@ -45,7 +45,7 @@ pub fn check_remove(nodes: &Nodes, cred: &Cred, at: &DirOpArgs) -> Result<u64, N
 
 /// A name that an RMDIR may remove: neither `.` nor `..`.
 fn check_dots(name: &[u8]) -> Result<(), NfsStatus>
-    ensures { result_err result ≡ first_of (([], is_dot name.now, Inval) ∷ ([], is_dot_dot name.now, Exist) ∷ []) }
+    ensures { result_err result ≡ first_of ((is_dot name.now, Inval) ∷ (is_dot_dot name.now, Exist) ∷ []) }
 {
     refuse_if(is_dot(name), NfsStatus::Inval)?;
     refuse_if(is_dot_dot(name), NfsStatus::Exist)
@@ -53,7 +53,7 @@ fn check_dots(name: &[u8]) -> Result<(), NfsStatus>
 
 /// A node that an RMDIR may remove: a directory without entries.
 fn check_emptied(nodes: &Nodes, fileid: u64) -> Result<(), NfsStatus>
-    ensures { result_err result ≡ first_of (([], not (is_directory (the_node nodes.now fileid)), NotDir) ∷ ([], has_entries (the_node nodes.now fileid), NotEmpty) ∷ []) }
+    ensures { result_err result ≡ first_of ((not (is_directory (the_node nodes.now fileid)), NotDir) ∷ (has_entries (the_node nodes.now fileid), NotEmpty) ∷ []) }
 {
     refuse_if(!nodes.is_directory(fileid), NfsStatus::NotDir)?;
     refuse_if(has_entries(nodes, fileid), NfsStatus::NotEmpty)

@@ -120,7 +120,7 @@ pub fn stands_for(nodes: &Nodes, dir: u64, name: &[u8], fileid: u64) -> bool
 
 /// What the new name stands for may be in the way of the node that moves.
 fn check_target(nodes: &Nodes, fileid: u64, target: Option<u64>) -> Result<(), NfsStatus>
-    ensures { result_err result ≡ first_of (target_rules nodes.now fileid target) }
+    ensures { result_err result ≡ first_of (target_rules nodes.now (the_node nodes.now fileid) target) }
 {
     let Some(target) = target else {
         return Ok(());
@@ -165,7 +165,7 @@ fn check_staying_room(
     requires is_directory { is_directory (the_node nodes.now to) ≡ true }
     requires found { IsSome (named nodes.now from from_name.now) }
     requires differ { from ≡ to → bytes_eq to_name.now from_name.now ≡ false }
-    ensures { result_err result ≡ first_of (entry_room_rules to (staying nodes.now from from_name.now to to_name.now) to_name.now) }
+    ensures { result_err result ≡ first_of (entry_room_rules (staying nodes.now from from_name.now to to_name.now) to_name.now) }
 {
     let size = staying_size(nodes, from, from_name, to, to_name);
     let more = ENTRY_OVERHEAD + to_name.len() as u64;

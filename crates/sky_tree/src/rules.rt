@@ -13,7 +13,7 @@ use sky_nodes::{Node, Nodes};
 
 /// A rule: this status where a test is true.
 pub fn refuse_if(test: bool, status: NfsStatus) -> Result<(), NfsStatus>
-    ensures { result_err result ≡ first_of (([], test, status) ∷ []) }
+    ensures { result_err result ≡ first_of ((test, status) ∷ []) }
 {
     if test { Err(status) } else { Ok(()) }
 }

@@ -61,7 +61,7 @@ fn check_object(nodes: &Nodes, object: &RawHandle, guard: Option<Moment>) -> Res
 /// The times, the mode and the owners that are set of an object: the first three of the rules.
 fn check_owned(nodes: &Nodes, cred: &Cred, fileid: u64, set: &SetAttr) -> Result<(), NfsStatus>
     requires { IsSome (node_at nodes.now.nodes fileid) }
-    ensures { result_err result ≡ first_of (([], has_bad_time set.now, Inval) ∷ ([], is_some set.now.mode && is_stranger nodes.now cred.now fileid, Perm) ∷ ([], may_not_set_owners cred.now (the_node nodes.now fileid).uid (the_node nodes.now fileid).gid set.now, Perm) ∷ []) }
+    ensures { result_err result ≡ first_of ((has_bad_time set.now, Inval) ∷ (is_some set.now.mode && is_stranger nodes.now cred.now fileid, Perm) ∷ (may_not_set_owners cred.now (the_node nodes.now fileid).uid (the_node nodes.now fileid).gid set.now, Perm) ∷ []) }
 {
     let attr = attributes_at(nodes, fileid);
     refuse_if(has_bad_time(set), NfsStatus::Inval)?;
@@ -76,7 +76,7 @@ fn check_owned(nodes: &Nodes, cred: &Cred, fileid: u64, set: &SetAttr) -> Result
 /// The size that is set of an object: the next four.
 fn check_sized(nodes: &Nodes, cred: &Cred, fileid: u64, set: &SetAttr) -> Result<(), NfsStatus>
     requires { IsSome (node_at nodes.now.nodes fileid) }
-    ensures { result_err result ≡ first_of (([], is_some set.now.size && is_directory (the_node nodes.now fileid), IsDir) ∷ ([], is_some set.now.size && is_link (the_node nodes.now fileid), Inval) ∷ ([], is_some set.now.size && lacks_unless_owner nodes.now cred.now fileid Write, Acces) ∷ ([], is_too_big set.now.size, FBig) ∷ []) }
+    ensures { result_err result ≡ first_of ((is_some set.now.size && is_directory (the_node nodes.now fileid), IsDir) ∷ (is_some set.now.size && is_link (the_node nodes.now fileid), Inval) ∷ (is_some set.now.size && lacks_unless_owner nodes.now cred.now fileid Write, Acces) ∷ (is_too_big set.now.size, FBig) ∷ []) }
 {
     let sized = set.size.is_some();
     refuse_if(
@@ -112,7 +112,7 @@ fn sets_server_time(nodes: &Nodes, cred: &Cred, fileid: u64, set: &SetAttr) -> b
 /// Whether the caller may set the times that are set of an object: the last two.
 fn check_timed(nodes: &Nodes, cred: &Cred, fileid: u64, set: &SetAttr) -> Result<(), NfsStatus>
     requires { IsSome (node_at nodes.now.nodes fileid) }
-    ensures { result_err result ≡ first_of (([], (is_client_time set.now.atime || is_client_time set.now.mtime) && is_stranger nodes.now cred.now fileid, Perm) ∷ ([], (is_server_time set.now.atime || is_server_time set.now.mtime) && is_stranger nodes.now cred.now fileid && lacks nodes.now cred.now fileid Write, Acces) ∷ []) }
+    ensures { result_err result ≡ first_of (((is_client_time set.now.atime || is_client_time set.now.mtime) && is_stranger nodes.now cred.now fileid, Perm) ∷ ((is_server_time set.now.atime || is_server_time set.now.mtime) && is_stranger nodes.now cred.now fileid && lacks nodes.now cred.now fileid Write, Acces) ∷ []) }
 {
     refuse_if(sets_client_time(nodes, cred, fileid, set), NfsStatus::Perm)?;
     refuse_if(sets_server_time(nodes, cred, fileid, set), NfsStatus::Acces)

@@ -15,8 +15,8 @@ nearly_full_volume : (t : Tree) → length t.nodes ≡ 2 ^ 20 - 1 → t.next_fil
 nearly_full_volume t e f = rw (e, f)
 
 -- a directory takes an entry up to a size of 2^20
-full_directory : (dir : ℕ) (l : Listing) → size_of_listing l ≡ 2 ^ 20 - 18 → first_of (entry_room_rules dir l (codes "n")) ≡ Some NoSpc
-full_directory dir l e = rw e
+full_directory : (l : Listing) → size_of_listing l ≡ 2 ^ 20 - 18 → first_of (entry_room_rules l (codes "n")) ≡ Some NoSpc
+full_directory l e = rw e
 
-nearly_full_directory : (dir : ℕ) (l : Listing) → size_of_listing l ≡ 2 ^ 20 - 19 → l.next_cookie ≡ 2 ^ 62 - 1 → first_of (entry_room_rules dir l (codes "n")) ≡ None
-nearly_full_directory dir l e f = rw (e, f)
+nearly_full_directory : (l : Listing) → size_of_listing l ≡ 2 ^ 20 - 19 → l.next_cookie ≡ 2 ^ 62 - 1 → first_of (entry_room_rules l (codes "n")) ≡ None
+nearly_full_directory l e f = rw (e, f)

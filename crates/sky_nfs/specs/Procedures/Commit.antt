@@ -11,7 +11,7 @@ use Rattle.sky_nfs.specs.Results.{wcc}
 abbrev pub commit_rules : Tree → List ℕ → Rules
 commit_rules t file =
     handle_rules t file ++
-    (fileid_in file ∷ [], not (is_file (the_node t (fileid_in file))), Inval) ∷ []
+    (not (is_file (the_node t (fileid_in file))), Inval) ∷ []
 
 -- the results of COMMIT. The tree shows nothing of what is stable
 abbrev pub committed : Tree → ℕ → List ℕ → CommitOk

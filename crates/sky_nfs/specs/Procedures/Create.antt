@@ -40,22 +40,22 @@ keeps (Some kept) verifier = bytes_eq kept verifier
 
 -- where the name stands for a node
 abbrev pub taken_rules : Tree → Cred → ℕ → CreateHow → Rules
-taken_rules t cred fileid (Guarded set) = ([], true, Exist) ∷ []
+taken_rules t cred fileid (Guarded set) = (true, Exist) ∷ []
 taken_rules t cred fileid (Exclusive verifier) =
-    (fileid ∷ [], not (is_file (the_node t fileid)), Exist) ∷
-    (fileid ∷ [], not (keeps (the_node t fileid).verifier verifier), Exist) ∷ []
+    (not (is_file (the_node t fileid)), Exist) ∷
+    (not (keeps (the_node t fileid).verifier verifier), Exist) ∷ []
 taken_rules t cred fileid (Unchecked set) =
-    (fileid ∷ [], not (is_file (the_node t fileid)), Exist) ∷
-    (fileid ∷ [], is_some set.size && lacks_unless_owner t cred fileid Write, Acces) ∷
-    ([], is_too_big set.size, FBig) ∷ []
+    (not (is_file (the_node t fileid)), Exist) ∷
+    (is_some set.size && lacks_unless_owner t cred fileid Write, Acces) ∷
+    (is_too_big set.size, FBig) ∷ []
 
 -- where the name is free
 abbrev pub free_rules : Tree → Cred → ℕ → List ℕ → SetAttr → Rules
 free_rules t cred dir name set =
-    (dir ∷ [], lacks t cred dir Write, Acces) ∷
-    ([], has_bad_time set, Inval) ∷
-    ([], may_not_set_owners cred cred.uid cred.gid set, Perm) ∷
-    ([], is_too_big set.size, FBig) ∷
+    (lacks t cred dir Write, Acces) ∷
+    (has_bad_time set, Inval) ∷
+    (may_not_set_owners cred cred.uid cred.gid set, Perm) ∷
+    (is_too_big set.size, FBig) ∷
     new_room_rules t dir name
 
 -- the refusals of CREATE
@@ -64,8 +64,8 @@ create_rules t cred at how =
     let dir = fileid_in at.directory in
     directory_rules t at.directory ++
     name_rules at.name ++
-    ([], is_dots at.name, Exist) ∷
-    (dir ∷ [], lacks t cred dir Execute, Acces) ∷
+    (is_dots at.name, Exist) ∷
+    (lacks t cred dir Execute, Acces) ∷
     go dir (named t dir at.name)
   where
     go : ℕ → Option ℕ → Rules

@@ -1,5 +1,5 @@
 -- LINK, RFC 1813 section 3.3.15: gives a file or a symbolic link one more name.
-use Rattle.std.specs.Prelude.{ℕ, nat_le, List, [], ◌∷◌, ◌++◌}
+use Rattle.std.specs.Prelude.{ℕ, nat_le, List, ◌∷◌, ◌++◌}
 use Rattle.sky_base.specs.declared.cred.Cred.{Cred}
 use Rattle.sky_base.specs.declared.moment.Moment.{Moment}
 use Rattle.sky_base.specs.Limits.{max_links}
@@ -20,12 +20,12 @@ link_rules t cred file at =
     let dir = fileid_in at.directory in
     handle_rules t file ++
     handle_rules t at.directory ++
-    (dir ∷ [], is_no_directory t dir, NotDir) ∷
-    (fileid_in file ∷ [], is_directory node, Inval) ∷
+    (is_no_directory t dir, NotDir) ∷
+    (is_directory node, Inval) ∷
     name_rules at.name ++
     new_name_rules t cred dir at.name ++
-    (fileid_in file ∷ [], nat_le max_links node.nlink, MLink) ∷
-    entry_room_rules dir (listing_of (the_node t dir)) at.name
+    (nat_le max_links node.nlink, MLink) ∷
+    entry_room_rules (listing_of (the_node t dir)) at.name
 
 -- the tree after LINK: the node has a link more, and the directory an entry
 abbrev pub link_tree : Tree → List ℕ → DirOpArgs → Moment → Tree

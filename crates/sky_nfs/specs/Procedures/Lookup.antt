@@ -20,8 +20,8 @@ lookup_rules t cred at =
     let dir = fileid_in at.directory in
     directory_rules t at.directory ++
     name_rules at.name ++
-    (dir ∷ [], lacks t cred dir Execute, Acces) ∷
-    (dir ∷ [], is_none (looked_up t dir at.name), NoEnt) ∷ []
+    (lacks t cred dir Execute, Acces) ∷
+    (is_none (looked_up t dir at.name), NoEnt) ∷ []
 
 -- the results of LOOKUP
 abbrev pub found : Tree → DirOpArgs → LookupOk

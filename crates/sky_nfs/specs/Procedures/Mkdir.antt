@@ -16,16 +16,16 @@ use Rattle.sky_nfs.specs.Changes.{edit, add_link, new_node, add_node}
 -- a name that is free, in a directory that the caller may change
 abbrev pub new_name_rules : Tree → Cred → ℕ → List ℕ → Rules
 new_name_rules t cred dir name =
-    ([], is_dots name, Exist) ∷
-    (dir ∷ [], lacks t cred dir Execute, Acces) ∷
-    (dir ∷ [], is_some (named t dir name), Exist) ∷
-    (dir ∷ [], lacks t cred dir Write, Acces) ∷ []
+    (is_dots name, Exist) ∷
+    (lacks t cred dir Execute, Acces) ∷
+    (is_some (named t dir name), Exist) ∷
+    (lacks t cred dir Write, Acces) ∷ []
 
 -- attributes that a new directory or link can have
 abbrev pub new_attribute_rules : Cred → SetAttr → Rules
 new_attribute_rules cred set =
-    ([], is_some set.size || has_bad_time set, Inval) ∷
-    ([], may_not_set_owners cred cred.uid cred.gid set, Perm) ∷ []
+    (is_some set.size || has_bad_time set, Inval) ∷
+    (may_not_set_owners cred cred.uid cred.gid set, Perm) ∷ []
 
 -- the refusals of MKDIR
 abbrev pub mkdir_rules : Tree → Cred → DirOpArgs → SetAttr → Rules
@@ -49,8 +49,8 @@ symlink_rules t cred at set text =
     let dir = fileid_in at.directory in
     directory_rules t at.directory ++
     name_rules at.name ++
-    ([], nat_lt max_link_text_bytes (length text), NameTooLong) ∷
-    ([], has_byte 0 text, Inval) ∷
+    (nat_lt max_link_text_bytes (length text), NameTooLong) ∷
+    (has_byte 0 text, Inval) ∷
     new_name_rules t cred dir at.name ++
     new_attribute_rules cred set ++
     new_room_rules t dir at.name

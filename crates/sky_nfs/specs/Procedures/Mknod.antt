@@ -7,4 +7,4 @@ use Rattle.sky_nfs.specs.Rules.{Rules, handle_rules}
 
 -- the refusals of MKNOD, of which the last always applies
 abbrev pub mknod_rules : Tree → DirOpArgs → Rules
-mknod_rules t at = handle_rules t at.directory ++ ([], true, NotSupp) ∷ []
+mknod_rules t at = handle_rules t at.directory ++ (true, NotSupp) ∷ []

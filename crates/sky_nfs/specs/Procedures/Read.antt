@@ -15,8 +15,8 @@ abbrev pub read_rules : Tree → Cred → List ℕ → Rules
 read_rules t cred file =
     let fileid = fileid_in file in
     handle_rules t file ++
-    (fileid ∷ [], not (is_file (the_node t fileid)), Inval) ∷
-    (fileid ∷ [], lacks_unless_owner t cred fileid Read, Acces) ∷ []
+    (not (is_file (the_node t fileid)), Inval) ∷
+    (lacks_unless_owner t cred fileid Read, Acces) ∷ []
 
 -- the bytes from an offset on, as many as the caller asks for and one READ moves
 abbrev pub bytes_at : List ℕ → ℕ → ℕ → List ℕ

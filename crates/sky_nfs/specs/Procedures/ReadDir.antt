@@ -75,9 +75,9 @@ abbrev pub page_rules : Tree → Cred → List ℕ → ℕ → List ℕ → (Lis
 page_rules t cred directory cookie verifier fit =
     let dir = fileid_in directory in
     directory_rules t directory ++
-    (dir ∷ [], lacks t cred dir Read, Acces) ∷
-    ([], is_bad_cookie cookie verifier, BadCookie) ∷
-    (dir ∷ [], is_too_small fit (left_behind t dir cookie), TooSmall) ∷ []
+    (lacks t cred dir Read, Acces) ∷
+    (is_bad_cookie cookie verifier, BadCookie) ∷
+    (is_too_small fit (left_behind t dir cookie), TooSmall) ∷ []
 
 -- the refusals of READDIR
 abbrev pub readdir_rules : Tree → Cred → List ℕ → ℕ → List ℕ → ℕ → Rules

@@ -11,7 +11,7 @@ use Rattle.sky_nfs.specs.Results.{post_attributes}
 abbrev pub readlink_rules : Tree → List ℕ → Rules
 readlink_rules t link =
     handle_rules t link ++
-    (fileid_in link ∷ [], not (is_link (the_node t (fileid_in link))), Inval) ∷ []
+    (not (is_link (the_node t (fileid_in link))), Inval) ∷ []
 
 -- the results of READLINK
 abbrev pub link_text_of : Tree → List ℕ → ReadLinkOk

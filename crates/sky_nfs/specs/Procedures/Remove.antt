@@ -10,13 +10,9 @@ use Rattle.sky_nfs.specs.Handles.{fileid_in}
 use Rattle.sky_nfs.specs.Rules.{Rules, directory_rules, name_rules, is_dot, is_dot_dot, is_dots, lacks}
 use Rattle.sky_nfs.specs.Changes.{remove_name}
 
--- the fileid that a name stands for, and 0 where a directory has no such name: the rule NOENT comes before
-abbrev pub id_of_name : Tree → ℕ → List ℕ → ℕ
-id_of_name t dir name = unwrap_or (named t dir name) 0
-
 -- the node that a name stands for
 abbrev pub named_node : Tree → ℕ → List ℕ → Node
-named_node t dir name = the_node t (id_of_name t dir name)
+named_node t dir name = the_node t (unwrap_or (named t dir name) 0)
 
 -- whether a directory has entries
 abbrev pub has_entries : Node → Bool
@@ -25,9 +21,9 @@ has_entries node = not (length (listing_of node).entries == 0)
 -- a name that is there, in a directory that the caller may change
 abbrev pub old_name_rules : Tree → Cred → ℕ → List ℕ → Rules
 old_name_rules t cred dir name =
-    (dir ∷ [], lacks t cred dir Execute, Acces) ∷
-    (dir ∷ [], is_none (named t dir name), NoEnt) ∷
-    (dir ∷ [], lacks t cred dir Write, Acces) ∷ []
+    (lacks t cred dir Execute, Acces) ∷
+    (is_none (named t dir name), NoEnt) ∷
+    (lacks t cred dir Write, Acces) ∷ []
 
 -- the refusals of REMOVE
 abbrev pub remove_rules : Tree → Cred → DirOpArgs → Rules
@@ -35,9 +31,9 @@ remove_rules t cred at =
     let dir = fileid_in at.directory in
     directory_rules t at.directory ++
     name_rules at.name ++
-    ([], is_dots at.name, IsDir) ∷
+    (is_dots at.name, IsDir) ∷
     old_name_rules t cred dir at.name ++
-    (dir ∷ id_of_name t dir at.name ∷ [], is_directory (named_node t dir at.name), IsDir) ∷ []
+    (is_directory (named_node t dir at.name), IsDir) ∷ []
 
 -- the refusals of RMDIR
 abbrev pub rmdir_rules : Tree → Cred → DirOpArgs → Rules
@@ -45,11 +41,11 @@ rmdir_rules t cred at =
     let dir = fileid_in at.directory in
     directory_rules t at.directory ++
     name_rules at.name ++
-    ([], is_dot at.name, Inval) ∷
-    ([], is_dot_dot at.name, Exist) ∷
+    (is_dot at.name, Inval) ∷
+    (is_dot_dot at.name, Exist) ∷
     old_name_rules t cred dir at.name ++
-    (dir ∷ id_of_name t dir at.name ∷ [], not (is_directory (named_node t dir at.name)), NotDir) ∷
-    (dir ∷ id_of_name t dir at.name ∷ [], has_entries (named_node t dir at.name), NotEmpty) ∷ []
+    (not (is_directory (named_node t dir at.name)), NotDir) ∷
+    (has_entries (named_node t dir at.name), NotEmpty) ∷ []
 
 -- the tree after REMOVE or RMDIR
 abbrev pub removed_tree : Tree → DirOpArgs → Moment → Tree

@@ -1,5 +1,5 @@
 -- RENAME, RFC 1813 section 3.3.14: gives an object another name.
-use Rattle.std.specs.Prelude.{ℕ, Bool, false, not, cond, length, ◌&&◌, ◌||◌, ◌==◌, List, [], ◌∷◌, ◌++◌, Option, Some, None, is_none, unwrap_or}
+use Rattle.std.specs.Prelude.{ℕ, Bool, false, not, cond, ◌&&◌, ◌||◌, ◌==◌, List, [], ◌∷◌, ◌++◌, Option, Some, None, is_none, unwrap_or}
 use Rattle.sky_base.specs.declared.cred.Cred.{Cred}
 use Rattle.sky_base.specs.declared.cred.Want.TheVariants.{Write, Execute}
 use Rattle.sky_base.specs.declared.moment.Moment.{Moment}
@@ -7,7 +7,7 @@ use Rattle.sky_base.specs.Listing.{Listing, without_entry}
 use Rattle.sky_nfs.specs.declared.answer.RenameResults.{RenameResults}
 use Rattle.sky_nfs.specs.declared.call.DirOpArgs.{DirOpArgs}
 use Rattle.sky_nfs.specs.declared.status.NfsStatus.TheVariants.{NotDir, Inval, Acces, NoEnt, Exist}
-use Rattle.sky_nfs.specs.Tree.{Tree, the_node, is_directory, listing_of, named, way_up, is_at_or_below}
+use Rattle.sky_nfs.specs.Tree.{Tree, Node, the_node, is_directory, listing_of, named, is_at_or_below}
 use Rattle.sky_nfs.specs.Handles.{fileid_in}
 use Rattle.sky_nfs.specs.Rules.{Rules, handle_rules, name_rules, is_no_directory, is_dots, lacks, entry_room_rules}
 use Rattle.sky_nfs.specs.Changes.{edit, stamp, add_link, drop_link, enter, leave, with_parent, remove_name}
@@ -20,13 +20,12 @@ is_same (Some a) (Some b) = a == b
 is_same _ _ = false
 
 -- a target that is in the way of a node: a directory before another node, or the other way round, or a directory with entries
-abbrev pub target_rules : Tree → ℕ → Option ℕ → Rules
-target_rules t moved None = []
-target_rules t moved (Some fileid) =
-    let source = the_node t moved in
+abbrev pub target_rules : Tree → Node → Option ℕ → Rules
+target_rules t source None = []
+target_rules t source (Some fileid) =
     let target = the_node t fileid in
-    (moved ∷ fileid ∷ [], is_directory source && not (is_directory target) || not (is_directory source) && is_directory target, Exist) ∷
-    (fileid ∷ [], is_directory target && has_entries target, Exist) ∷ []
+    (is_directory source && not (is_directory target) || not (is_directory source) && is_directory target, Exist) ∷
+    (is_directory target && has_entries target, Exist) ∷ []
 
 -- what stays in the new directory when the target, and in the same directory the old name, are gone
 abbrev pub staying : Tree → ℕ → List ℕ → ℕ → List ℕ → Listing
@@ -38,9 +37,9 @@ staying t from from_name to to_name =
 abbrev pub move_rules : Tree → ℕ → List ℕ → ℕ → List ℕ → ℕ → Rules
 move_rules t from from_name to to_name fileid =
     let source = the_node t fileid in
-    (fileid ∷ cond (is_directory source) (way_up t (length t.nodes) to fileid) [], is_directory source && is_at_or_below t to fileid, Inval) ∷
-    target_rules t fileid (named t to to_name) ++
-    entry_room_rules to (staying t from from_name to to_name) to_name
+    (is_directory source && is_at_or_below t to fileid, Inval) ∷
+    target_rules t source (named t to to_name) ++
+    entry_room_rules (staying t from from_name to to_name) to_name
 
 -- the refusals of RENAME
 abbrev pub rename_rules : Tree → Cred → DirOpArgs → DirOpArgs → Rules
@@ -50,16 +49,16 @@ rename_rules t cred at to_at =
     let source = named t from at.name in
     handle_rules t at.directory ++
     handle_rules t to_at.directory ++
-    (from ∷ [], is_no_directory t from, NotDir) ∷
-    (to ∷ [], is_no_directory t to, NotDir) ∷
+    (is_no_directory t from, NotDir) ∷
+    (is_no_directory t to, NotDir) ∷
     name_rules at.name ++
     name_rules to_at.name ++
-    ([], is_dots at.name || is_dots to_at.name, Inval) ∷
-    (from ∷ [], lacks t cred from Execute, Acces) ∷
-    (from ∷ [], lacks t cred from Write, Acces) ∷
-    (to ∷ [], lacks t cred to Execute, Acces) ∷
-    (to ∷ [], lacks t cred to Write, Acces) ∷
-    (from ∷ [], is_none source, NoEnt) ∷
+    (is_dots at.name || is_dots to_at.name, Inval) ∷
+    (lacks t cred from Execute, Acces) ∷
+    (lacks t cred from Write, Acces) ∷
+    (lacks t cred to Execute, Acces) ∷
+    (lacks t cred to Write, Acces) ∷
+    (is_none source, NoEnt) ∷
     cond (is_same source (named t to to_at.name)) [] (move_rules t from at.name to to_at.name (unwrap_or source 0))
 
 -- a directory that moves has another parent, and counts there

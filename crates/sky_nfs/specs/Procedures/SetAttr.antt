@@ -35,16 +35,16 @@ setattr_rules t cred object set guard =
     let fileid = fileid_in object in
     let node = the_node t fileid in
     handle_rules t object ++
-    (fileid ∷ [], guard_differs guard node.ctime, NotSync) ∷
-    ([], has_bad_time set, Inval) ∷
-    (fileid ∷ [], is_some set.mode && is_stranger t cred fileid, Perm) ∷
-    (fileid ∷ [], may_not_set_owners cred node.uid node.gid set, Perm) ∷
-    (fileid ∷ [], is_some set.size && is_directory node, IsDir) ∷
-    (fileid ∷ [], is_some set.size && is_link node, Inval) ∷
-    (fileid ∷ [], is_some set.size && lacks_unless_owner t cred fileid Write, Acces) ∷
-    ([], is_too_big set.size, FBig) ∷
-    (fileid ∷ [], (is_client_time set.atime || is_client_time set.mtime) && is_stranger t cred fileid, Perm) ∷
-    (fileid ∷ [], (is_server_time set.atime || is_server_time set.mtime) && is_stranger t cred fileid && lacks t cred fileid Write, Acces) ∷ []
+    (guard_differs guard node.ctime, NotSync) ∷
+    (has_bad_time set, Inval) ∷
+    (is_some set.mode && is_stranger t cred fileid, Perm) ∷
+    (may_not_set_owners cred node.uid node.gid set, Perm) ∷
+    (is_some set.size && is_directory node, IsDir) ∷
+    (is_some set.size && is_link node, Inval) ∷
+    (is_some set.size && lacks_unless_owner t cred fileid Write, Acces) ∷
+    (is_too_big set.size, FBig) ∷
+    ((is_client_time set.atime || is_client_time set.mtime) && is_stranger t cred fileid, Perm) ∷
+    ((is_server_time set.atime || is_server_time set.mtime) && is_stranger t cred fileid && lacks t cred fileid Write, Acces) ∷ []
 
 -- a node with the attributes that a caller sets. The size comes first, so that an mtime that is set stands
 abbrev pub set_node : SetAttr → Moment → Node → Node

@@ -23,10 +23,10 @@ abbrev pub write_rules : Tree → Cred → List ℕ → ℕ → ℕ → List ℕ
 write_rules t cred file offset count piece =
     let fileid = fileid_in file in
     handle_rules t file ++
-    (fileid ∷ [], not (is_file (the_node t fileid)), Inval) ∷
-    ([], not (count == length piece), Inval) ∷
-    (fileid ∷ [], lacks_unless_owner t cred fileid Write, Acces) ∷
-    ([], nat_lt max_file_bytes (offset + write_count count), FBig) ∷ []
+    (not (is_file (the_node t fileid)), Inval) ∷
+    (not (count == length piece), Inval) ∷
+    (lacks_unless_owner t cred fileid Write, Acces) ∷
+    (nat_lt max_file_bytes (offset + write_count count), FBig) ∷ []
 
 -- a file with a piece written to it
 abbrev pub write_node : Moment → ℕ → List ℕ → Node → Node

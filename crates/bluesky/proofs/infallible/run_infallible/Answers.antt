@@ -5,9 +5,9 @@ use Rattle.bluesky.proofs.infallible.run_infallible.Goals as goal
 
 pub returns-clause-complete : goal.returns-clause-complete
 returns-clause-complete c =
-    λ replayed sound supply course status rest reading.
+    λ fields said replayed sound supply course status rest reading.
     let run = c.run.ensures in
     ⊎_elim inl
-    (λ free. ⊎_elim (λ memory. inr (inl memory)) (λ worn. inr (inr (worn, worn_out _ _ _ _ _ _ _ _ _ refl refl c.run.result run.ran worn supply course status rest reading))) free)
+    (λ free. ⊎_elim (λ memory. inr (inl memory)) (λ worn. inr (inr (worn, worn_out _ _ _ _ _ _ _ _ _ refl refl c.run.result (run.ran fields said) worn supply course status rest reading))) free)
     (only_memory c.run.result c.args.source.now (run.exact replayed) (λ e. never_rose (run.source_cause.cause e)) (λ e. never_rose (run.sink_cause.cause e))
-    (λ e. never_rose (run.journal_cause.cause e)) (λ e. never_rose (run.cloud_cause e)) (λ damage. run.sound damage sound) supply course status rest reading)
+    (λ e. never_rose (run.journal_cause.cause e)) (λ e. never_rose (run.cloud_cause e)) (λ damage. run.sound fields said damage sound) supply course status rest reading)

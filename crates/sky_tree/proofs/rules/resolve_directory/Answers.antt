@@ -10,7 +10,7 @@ use Rattle.sky_tree.proofs.rules.resolve_directory.Goals as goal
 pub returns-in_err-fileid-clause-refused : goal.returns-in_err-fileid-clause-refused
 returns-in_err-fileid-clause-refused c =
     let p = err_from_is_err_and c.from_residual.result c.from_residual.ensures.1 in
-    rw (p.1, p.2) (refused_by (handle_rules c.args.nodes.now c.args.fh.now) (([], is_no_directory c.args.nodes.now (fileid_in c.args.fh.now), NotDir) ∷ []) c.in_err-fileid.field-0.0 c.in_err-fileid.ensures.refused)
+    rw (p.1, p.2) (refused_by (handle_rules c.args.nodes.now c.args.fh.now) ((is_no_directory c.args.nodes.now (fileid_in c.args.fh.now), NotDir) ∷ []) c.in_err-fileid.field-0.0 c.in_err-fileid.ensures.refused)
 
 pub returns-in_err-refuse_if-clause-refused : goal.returns-in_err-refuse_if-clause-refused
 returns-in_err-refuse_if-clause-refused c =

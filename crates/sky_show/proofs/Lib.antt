@@ -1,0 +1,5 @@
+mod Headers
+mod Lines
+mod Faults
+mod Shows
+mod Numbers

@@ -1,0 +1,10 @@
+pub mod Ending
+pub mod Line
+pub mod Names
+pub mod Waiting
+pub mod Frames
+pub mod Shown
+pub mod Results
+pub use Rattle.sky_outside.specs.Count
+pub use Rattle.sky_outside.specs.Told
+pub use Rattle.sky_script.specs.Frame
