@@ -29,7 +29,7 @@ use sky_base::{Paths, Status, Text};
 use sky_real::{FileSite, StdinSource, StdoutSink};
 use sky_settings_file::{SettingsFault, read_settings};
 use sky_texts::Ending;
-use sky_words::{WordsFault, paths_of};
+use sky_words::paths_of;
 use std::alloc::Global;
 use std::env::Args;
 use std::io::{BufReader, ErrorKind};
@@ -130,14 +130,12 @@ fn run_over(
     run(alloc, words, settings, &mut source, &mut sink, &mut site)
 }
 
-/// Runs a command over the files that the words name.
+/// Runs the command of words that are one, over the files that they name. `Memory` where there's none for the names.
 fn run_named(rt: &HostRuntime, alloc: Global, words: &[String]) -> Ending
     ensures words { result ≡ Ending.Ran Status.Words → Says Replay (map string_bytes words.now) → ⊥ }
 {
-    let paths = match paths_of(alloc, words) {
-        Ok(paths) => paths,
-        Err(WordsFault::Refused) => return Ending::Ran(Status::Words),
-        Err(WordsFault::Memory) => return Ending::Ran(Status::Memory),
+    let Ok(paths) = paths_of(alloc, words) else {
+        return Ending::Ran(Status::Memory);
     };
     match settings_text(rt, paths.settings.as_ref()) {
         Ok(settings) => Ending::Ran(run_over(rt, alloc, words, paths, &settings)),
